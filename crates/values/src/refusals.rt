@@ -1,0 +1,19 @@
+ghost use mathlib.Core.Path.{_≡_};
+ghost use Rattle.values.specs.Refusals.{number-of};
+
+// Why a call was refused. The number of each case stands in specs/Refusals.antt.
+#[derive(Clone, Copy, PartialEq, Eq, Debug)]
+pub enum Refusal {
+    // a block has no controller, or more than 16
+    BlockSize = 1,
+    // a value is out of range, or its bytes are not as many as its width
+    Value = 24,
+}
+
+impl Refusal {
+    pub fn number(self) -> u8
+        ensures { λ r. ⌜ r ≡ number-of self ⌝ }
+    {
+        self as u8
+    }
+}
