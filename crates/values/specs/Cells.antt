@@ -1,13 +1,13 @@
 -- Cells by what they mean: nothing, or the numbers of a value. Assumes nothing.
-use mathlib.Core.List.{List, map}
+use mathlib.Core.List.{List, [], _∷_, map}
 use mathlib.Core.Bool.{Bool, true, false, not, _&&_}
 use Prim.Native.Nat.{ℕ}
-use lib.Dec.{leb}
+use lib.Dec.{eqb, leb}
 use lib.ListN.{getD}
 use Rattle.std.specs.shelf.Lists.{countBy}
 use Rattle.std.specs.declared.option.Option.{Option}
 use Rattle.std.specs.declared.option.Option.the-variants.{Some, None}
-use Rattle.values.specs.Rules.{Rules, stands, alike}
+use Rattle.values.specs.Rules.{Rules, means}
 use Rattle.values.specs.Counting.{count, lowest}
 use Rattle.values.specs.declared.cells.Cell.{Cell}
 use Rattle.values.specs.declared.cells.Cell.the-variants.{Empty, Filled}
@@ -16,14 +16,21 @@ use Rattle.values.specs.declared.cells.Cell.the-variants.{Empty, Filled}
 abbrev pub Held : Type 0
 Held = Option (List ℕ)
 
--- what a cell holds: a row counts as the value that it stands for
+-- what a cell holds: nothing, or the value that its row means
 abbrev pub shows : {R : Type 0} → Rules → (R → List ℕ) → Cell R → Held
 shows k plain Empty = None
-shows k plain (Filled r) = Some (stands k (plain r))
+shows k plain (Filled row) = Some (means k plain row)
 
 -- what the cells of a list hold, by place; past the list there is nothing
 abbrev pub seen : {R : Type 0} → Rules → (R → List ℕ) → List (Cell R) → ℕ → Held
 seen k plain cells i = getD (map (shows k plain) cells) i None
+
+-- whether two values are the same: equal numbers, place by place
+abbrev pub alike : List ℕ → List ℕ → Bool
+alike [] [] = true
+alike [] (y ∷ ys) = false
+alike (x ∷ xs) [] = false
+alike (x ∷ xs) (y ∷ ys) = eqb x y && alike xs ys
 
 -- the cell holds v; the cell is filled otherwise
 unfoldable pub holds : List ℕ → Held → Bool
@@ -57,6 +64,10 @@ passes q (Some v) = q v
 abbrev pub qualifies : ℕ → ℕ → (ℕ → Held) → ℕ → List ℕ → Bool
 qualifies least most cells n v = leb least (holders cells n v) && leb (others cells n v) most
 
--- the places whose value qualifies
+-- whether place i is filled with a value that qualifies
 abbrev pub qualifying : ℕ → ℕ → (ℕ → Held) → ℕ → ℕ → Bool
 qualifying least most cells n i = passes (qualifies least most cells n) (cells i)
+
+-- the lowest place whose value qualifies
+abbrev pub winning : ℕ → ℕ → (ℕ → Held) → ℕ → Option ℕ
+winning least most cells n = lowest (qualifying least most cells n) n

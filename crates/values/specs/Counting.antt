@@ -6,6 +6,7 @@ use Rattle.std.specs.Options.{Cases, orOther}
 use Rattle.std.specs.declared.option.Option.{Option}
 use Rattle.std.specs.declared.option.Option.the-variants.{Some, None}
 
+-- what one place adds to a count
 abbrev pub tick : Bool → ℕ
 tick true = 1
 tick false = 0
@@ -20,6 +21,6 @@ unfoldable pub lowest : (ℕ → Bool) → ℕ → Option ℕ
 lowest p zero = None
 lowest p (suc n) = orOther (lowest p n) (cond (p n) (Some n) None)
 
--- what `lowest` is, said as a law: no place passes; or this one passes, and none below it
+-- the law of `lowest`: no place passes; or the place passes, and none below it does
 abbrev pub IsLowest : (ℕ → Bool) → ℕ → Option ℕ → Type 0
 IsLowest p n r = Cases r ((i : ℕ) → i < n → p i ≡ false) (λ i. (i < n) × (p i ≡ true) × ((j : ℕ) → j < i → p j ≡ false))

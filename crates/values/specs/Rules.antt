@@ -1,6 +1,6 @@
 -- What a value kind fixes, and what rows, bytes and text mean under it. Assumes nothing.
 use mathlib.Core.List.{List, [], _∷_, _++_}
-use mathlib.Core.Bool.{Bool, true, false, cond, _&&_}
+use mathlib.Core.Bool.{Bool, cond}
 use Prim.Native.Nat.{ℕ, _+_, _*_}
 use lib.Dec.{eqb}
 use lib.ListN.{length}
@@ -23,28 +23,25 @@ pub record Rules : Type 0 where
 abbrev pub lawful : Rules → List ℕ → Option (List ℕ)
 lawful k xs = cond (k .allowed xs) (Some xs) None
 
--- the value that a row of numbers stands for: its own, or the fallback where it breaks the rule
+-- the value that numbers stand for: they themselves, or the fallback where they break the rule
 abbrev pub stands : Rules → List ℕ → List ℕ
 stands k xs = valueOr (lawful k xs) (k .fallback)
 
--- whether two values are the same: equal numbers, place by place
-abbrev pub alike : List ℕ → List ℕ → Bool
-alike [] [] = true
-alike [] (y ∷ ys) = false
-alike (x ∷ xs) [] = false
-alike (x ∷ xs) (y ∷ ys) = eqb x y && alike xs ys
+-- the value that a row means, by its plain numbers
+abbrev pub means : {R : Type 0} → Rules → (R → List ℕ) → R → List ℕ
+means k plain row = stands k (plain row)
 
--- the 16-bit numbers in bytes, low byte first
+-- the 16-bit numbers in bytes, low byte first; an odd byte at the end makes none
 abbrev pub words : List ℕ → List ℕ
 words [] = []
 words (low ∷ []) = []
 words (low ∷ high ∷ rest) = (low + high * 256) ∷ words rest
 
--- reading: exactly as many bytes as the width, whose numbers keep the rule, or the one refusal
+-- reading: exactly as many bytes as the width, whose numbers keep the rule, or the refusal of a value
 abbrev pub reads : Rules → List ℕ → Result (List ℕ) Refusal
 reads k bytes = cond (eqb (length bytes) (k .width)) (okOr (lawful k (words bytes)) Value) (Err Value)
 
--- what a reading means
+-- what was read, by its meaning
 abbrev pub meant : {V E : Type 0} → (V → List ℕ) → Result V E → Result (List ℕ) E
 meant m (Ok v) = Ok (m v)
 meant m (Err e) = Err e

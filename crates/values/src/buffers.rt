@@ -4,7 +4,7 @@ ghost use lib.ListN.{length};
 
 mod adding;
 
-// A text in lent memory: the first `len` bytes of `room`.
+/// A text in lent memory: the first `len` bytes of `room`. Where the room ends the text is cut.
 #[derive(Drop)]
 pub struct Buffer<'a> {
     room: &'a mut [u8],

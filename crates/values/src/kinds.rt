@@ -4,47 +4,67 @@ ghost use mathlib.Core.Bool.{true};
 ghost use Prim.Native.Nat.{ℕ, _*_};
 ghost use denote.Ref.{name};
 ghost use lib.ListN.{length};
+ghost use Rattle.std.specs.Orderings.{Decides};
 ghost use Rattle.values.specs.Added.{Added};
-ghost use Rattle.values.specs.Rules.{Rules, stands, alike, reads, meant, text};
+ghost use Rattle.values.specs.Rules.{Rules, means, reads, meant, text};
 use crate::buffers::Buffer;
 use crate::refusals::Refusal;
 
+/// A value kind: what its values mean, and how they lie in cells, are read and are written.
+///
+/// Whoever builds a kind owes each clause and law below; code over any kind rests on them alone.
+/// No method alters a value, and only `read` refuses.
 pub trait Kind: Sized + Drop {
+    /// A value as it lies in a cell: plain numbers, under no rule.
     type Row: Copy;
 
+    /// The width of a value in bytes. Clauses cannot cite it, so `byte_width` ties it to the rules.
     const WIDTH: usize;
 
+    // the rule, the fallback and the width
     ghost rules: { Rules };
 
+    // the whole numbers that a value means
     ghost meaning: { Self → List ℕ };
 
+    // the plain numbers of a row
     ghost plain: { Self·Row → List ℕ };
 
+    // every value keeps the rule
     law kept: { (v : Self) → rules .allowed (meaning v) ≡ true };
 
+    // and so does the fallback
     law falls: { rules .allowed (rules .fallback) ≡ true };
 
+    // a number takes two bytes
     law sized: { (xs : List ℕ) → rules .allowed xs ≡ true → rules .width ≡ 2 * length xs };
 
+    /// The width of a value in bytes.
     fn byte_width() -> usize
         ensures { λ r. ⌜ r ≡ rules .width ⌝ };
 
+    /// The value that a row which breaks the rule stands for.
     fn fallback() -> Self
-        ensures { λ r. ⌜ meaning r ≡ rules .fallback ⌝ };
+        ensures { λ v. ⌜ meaning v ≡ rules .fallback ⌝ };
 
+    /// The row of a value: its numbers, which mean that value again.
     fn row(&self) -> Self::Row
         ensures numbers { λ r. ⌜ plain r ≡ meaning (now (self .entry)) ⌝ }
-        ensures back { λ r. ⌜ stands rules (plain r) ≡ meaning (now (self .entry)) ⌝ };
+        ensures back { λ r. ⌜ means rules plain r ≡ meaning (now (self .entry)) ⌝ };
 
+    /// The value that a row means: its own, or the fallback where it breaks the rule.
     fn value(row: &Self::Row) -> Self
-        ensures { λ v. ⌜ meaning v ≡ stands rules (plain (now (row .entry))) ⌝ };
+        ensures { λ v. ⌜ meaning v ≡ means rules plain (now (row .entry)) ⌝ };
 
+    /// Whether two values are the same: exactly if they mean equal numbers.
     fn same(&self, other: &Self) -> bool
-        ensures { λ r. ⌜ r ≡ alike (meaning (now (self .entry))) (meaning (now (other .entry))) ⌝ };
+        ensures { λ r. ⌜ Decides r (meaning (now (self .entry)) ≡ meaning (now (other .entry))) ⌝ };
 
+    /// Reads a value from as many bytes as its width, in numbers of two bytes, low byte first.
     fn read(bytes: &[u8]) -> Result<Self, Refusal>
         ensures { λ r. ⌜ meant meaning r ≡ reads rules (now (bytes .entry)) ⌝ };
 
+    /// Adds the value's numbers to a text, in decimal and parted by one blank.
     fn write(&self, out: &mut Buffer)
         ensures named { λ _. ⌜ name (now (out .exit) .room) ≡ name (now (out .entry) .room) ⌝ }
         ensures added { λ _. ⌜ Added (now (out .entry)) (text (meaning (now (self .entry)))) (now (out .exit)) ⌝ };

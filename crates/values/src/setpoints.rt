@@ -4,7 +4,7 @@ mod kind;
 
 pub use kind::SetpointKind;
 
-// Supply water in tenths of a degree Celsius, from 200 to 900.
+/// Supply water in tenths of a degree Celsius, from 200 to 900.
 #[derive(Clone, Copy)]
 pub struct Setpoint {
     tenths: u16,

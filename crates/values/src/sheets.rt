@@ -4,7 +4,7 @@ mod kind;
 
 pub use kind::SheetKind;
 
-// How the warm water is shared among four zones, in thousandths. No sheet shares out more than all of it.
+/// How the warm water is shared among four zones, in thousandths. No sheet shares out more than all of it.
 #[derive(Clone, Copy)]
 pub struct Sheet {
     zone0: u16,
@@ -14,7 +14,7 @@ pub struct Sheet {
     ghost whole: { zone0 + zone1 + zone2 + zone3 ≤ 1000 },
 }
 
-// Four shares as plain numbers, under no rule.
+/// Four shares as plain numbers, under no rule.
 #[derive(Clone, Copy)]
 pub struct Shares {
     pub zone0: u16,

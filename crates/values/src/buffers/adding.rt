@@ -1,15 +1,14 @@
 ghost use mathlib.Core.Path.{_≡_};
-ghost use mathlib.Core.List.{List, [], _∷_, _++_};
-ghost use Prim.Native.Nat.{ℕ, _+_, _<_, _≤_};
+ghost use mathlib.Core.List.{[], _∷_};
+ghost use Prim.Native.Nat.{_+_, _<_};
 ghost use denote.Ref.{name};
-ghost use lib.ListN.{length, take, drop};
 ghost use Rattle.std.specs.Written.{decimal};
 ghost use Rattle.values.specs.Added.{Added};
 ghost use Rattle.values.specs.Rules.{text};
 use crate::buffers::Buffer;
 
 impl<'a> Buffer<'a> {
-    // An empty text over `room`, whose bytes stay.
+    /// An empty text over `room`, whose bytes stay as they are.
     pub fn over(room: &'a mut [u8]) -> Buffer<'a>
         ensures named { λ b. ⌜ name (b .room) ≡ name (room .entry) ⌝ }
         ensures value { λ b. ⌜ (now (b .room) ≡ now (room .entry)) × (b .len ≡ 0) ⌝ }
@@ -17,13 +16,14 @@ impl<'a> Buffer<'a> {
         Buffer { room, len: 0 }
     }
 
-    // The length of the text.
+    /// The length of the text.
     pub fn len(&self) -> usize
         ensures { λ r. ⌜ r ≡ now (self .entry) .len ⌝ }
     {
         self.len
     }
 
+    /// Adds one byte, if there is room.
     pub fn put_byte(&mut self, byte: u8)
         ensures named { λ _. ⌜ name (now (self .exit) .room) ≡ name (now (self .entry) .room) ⌝ }
         ensures added { λ _. ⌜ Added (now (self .entry)) (byte ∷ []) (now (self .exit)) ⌝ }
@@ -35,7 +35,7 @@ impl<'a> Buffer<'a> {
         }
     }
 
-    // The number in decimal, with no zeros before it.
+    /// Adds a number in decimal.
     pub fn put_decimal(&mut self, number: u16)
         ensures named { λ _. ⌜ name (now (self .exit) .room) ≡ name (now (self .entry) .room) ⌝ }
         ensures added { λ _. ⌜ Added (now (self .entry)) (decimal number) (now (self .exit)) ⌝ }
@@ -46,7 +46,7 @@ impl<'a> Buffer<'a> {
         self.put_byte(b'0' + (number % 10) as u8);
     }
 
-    // The numbers in decimal, parted by one blank.
+    /// Adds numbers in decimal, parted by one blank.
     pub fn put_numbers(&mut self, numbers: &[u16])
         ensures named { λ _. ⌜ name (now (self .exit) .room) ≡ name (now (self .entry) .room) ⌝ }
         ensures added { λ _. ⌜ Added (now (self .entry)) (text (now (numbers .entry))) (now (self .exit)) ⌝ }

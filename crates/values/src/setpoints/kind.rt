@@ -1,6 +1,5 @@
 ghost use mathlib.Core.Path.{_≡_};
-ghost use mathlib.Core.List.{List, [], _∷_};
-ghost use Prim.Native.Nat.{ℕ};
+ghost use mathlib.Core.List.{[], _∷_};
 ghost use Rattle.std.specs.Options.{mapped};
 ghost use Rattle.values.specs.Rules.{lawful};
 ghost use Rattle.values.specs.Setpoints.{setpoint-rules, tenths-of};
@@ -10,7 +9,7 @@ use crate::refusals::Refusal;
 use crate::setpoints::Setpoint;
 
 impl Setpoint {
-    // The setpoint of so many tenths, if they are in range.
+    /// The setpoint of so many tenths, if they are in range.
     pub fn new(tenths: u16) -> Option<Setpoint>
         ensures { λ r. ⌜ mapped tenths-of r ≡ lawful setpoint-rules (tenths ∷ []) ⌝ }
     {
@@ -21,6 +20,7 @@ impl Setpoint {
         }
     }
 
+    /// The setpoint in tenths of a degree Celsius.
     pub fn tenths(&self) -> u16
         ensures { λ r. ⌜ r ≡ now (self .entry) .tenths ⌝ }
     {

@@ -1,7 +1,6 @@
 ghost use mathlib.Core.Path.{_≡_};
-ghost use mathlib.Core.List.{List, [], _∷_};
-ghost use Prim.Native.Nat.{ℕ, _+_};
 ghost use Rattle.std.specs.Options.{mapped};
+ghost use Rattle.std.specs.shelf.Lists.{sum};
 ghost use Rattle.values.specs.Rules.{lawful};
 ghost use Rattle.values.specs.Sheets.{sheet-rules, shares-of, plain-shares};
 use crate::buffers::Buffer;
@@ -13,17 +12,16 @@ use crate::sheets::Sheet;
 impl Shares {
     // The sum in 32 bits, since four shares of 16 bits may pass 65,535.
     fn total(&self) -> u32
-        ensures { λ r. ⌜ r ≡ now (self .entry) .zone0 + now (self .entry) .zone1 + now (self .entry) .zone2 + now (self .entry) .zone3 ⌝ }
+        ensures { λ r. ⌜ r ≡ sum (plain-shares (now (self .entry))) ⌝ }
     {
-        u32::from(self.zone0)
-            + u32::from(self.zone1)
-            + u32::from(self.zone2)
-            + u32::from(self.zone3)
+        let front = u32::from(self.zone0) + u32::from(self.zone1);
+        let back = u32::from(self.zone2) + u32::from(self.zone3);
+        front + back
     }
 }
 
 impl Sheet {
-    // The sheet of these shares, if they total at most 1000.
+    /// The sheet of these shares, if they total at most 1000.
     pub fn new(shares: Shares) -> Option<Sheet>
         ensures { λ r. ⌜ mapped shares-of r ≡ lawful sheet-rules (plain-shares shares) ⌝ }
     {

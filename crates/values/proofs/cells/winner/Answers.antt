@@ -2,7 +2,7 @@ use mathlib.Core.Path.{_≡_, sym, subst}
 use mathlib.Core.Bool.{true}
 use native.Mathlib.Omega.{arith}
 use lib.ListN.{length}
-use Rattle.std.specs.declared.option.Option.the-variants.{Some, None}
+use Rattle.std.specs.declared.option.Option.the-variants.{None}
 use Rattle.values.specs.Counting.{lowest, IsLowest}
 use Rattle.values.specs.Cells.{seen, passes, qualifying}
 use Rattle.values.proofs.Counts.{lowest-none, lowest-more, lowest-stays, lowest-is}

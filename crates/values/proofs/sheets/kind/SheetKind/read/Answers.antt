@@ -1,9 +1,9 @@
-use mathlib.Core.Path.{_≡_, refl, sym, ap, _∙_}
+use mathlib.Core.Path.{_≡_, ap, _∙_}
 use mathlib.Core.List.{[], _∷_}
 use native.Mathlib.Omega.{arith}
 use lib.ListN.{length}
 use Rattle.values.specs.Rules.{words, meant}
-use Rattle.values.specs.Sheets.{sheet-rules, shares-of, plain-shares}
+use Rattle.values.specs.Sheets.{sheet-rules, shares-of}
 use Rattle.values.proofs.Bytes.{reads-as, words-are}
 use Rattle.values.proofs.sheets.kind.SheetKind.read.Needs as need
 
