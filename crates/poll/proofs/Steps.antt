@@ -1,7 +1,6 @@
 -- One turn of each loop of a poll.
 use mathlib.Core.Path.{_≡_, refl, sym, ap, _∙_}
 use mathlib.Core.List.{List, [], _∷_, _++_, map, append-assoc, map-append}
-use mathlib.Core.Bool.{true, false}
 use Prim.Native.Nat.{ℕ, min, _+_, _-_, _<_}
 use native.Mathlib.Omega.{arith}
 use native.Mathlib.Numerals.{add-one}
@@ -11,7 +10,7 @@ use Rattle.std.specs.Vec.{listOf}
 use Rattle.std.proofs.shelf.Lists.{nil-from-length, length-append, map-push, map-more, getD-map, take-map}
 use Rattle.std.proofs.shelf.Tests.{cond-true, cond-false, eq-eqb, ne-eqb}
 use Rattle.std.specs.declared.option.Option.{Option}
-use Rattle.std.specs.declared.option.Option.the-variants.{Some, None}
+use Rattle.std.specs.declared.option.Option.the-variants.{None}
 use Rattle.std.specs.declared.result.Result.{Result}
 use Rattle.values.specs.declared.refusals.Refusal.{Refusal}
 use Rattle.values.specs.declared.setpoints.Setpoint.{Setpoint}

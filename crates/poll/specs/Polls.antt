@@ -1,13 +1,13 @@
 -- What a poll of a block reads and counts. Assumes nothing.
 use mathlib.Core.Path.{_≡_}
 use mathlib.Core.List.{List, [], _∷_, _++_, map}
-use mathlib.Core.Bool.{Bool, true, false, cond, _&&_}
-use Prim.Native.Nat.{ℕ, zero, suc}
+use mathlib.Core.Bool.{cond, _&&_}
+use Prim.Native.Nat.{ℕ, zero, suc, min}
 use lib.Dec.{eqb, leb}
 use lib.ListN.{length, take, getD}
 use Rattle.std.specs.Of.Vec.{vec-items}
 use Rattle.std.specs.Results.{okPart}
-use Rattle.std.specs.declared.option.Option.{Option}
+use Rattle.std.specs.shelf.Lists.{countBy}
 use Rattle.std.specs.declared.option.Option.the-variants.{Some, None}
 use Rattle.std.specs.declared.result.Result.{Result}
 use Rattle.std.specs.declared.result.Result.the-variants.{Ok, Err}
@@ -15,7 +15,7 @@ use Rattle.values.specs.declared.refusals.Refusal.{Refusal}
 use Rattle.values.specs.declared.refusals.Refusal.the-variants.{BlockSize}
 use Rattle.values.specs.Rules.{reads, meant}
 use Rattle.values.specs.Setpoints.{setpoint-rules, tenths-of}
-use Rattle.values.specs.Cells.{Held, shows, holders-in, others-in}
+use Rattle.values.specs.Cells.{Held, alike, shows, holders-in, others-in}
 use Rattle.values.specs.declared.cells.Cell.{Cell}
 use Rattle.poll.specs.declared.polls.Standing.{Standing}
 use Rattle.poll.specs.declared.polls.Poll.{Poll}
@@ -61,6 +61,10 @@ counted cells v = (v, holders-in cells v, others-in cells v)
 abbrev pub standings-of : List Held → List (List ℕ × ℕ × ℕ)
 standings-of cells = map (counted cells) (distinct cells (length cells))
 
+-- The law of the standings: a value has one if some cell holds it, and else none.
+abbrev pub Once : List Held → List (List ℕ × ℕ × ℕ) → Type 0
+Once cells all = (v : List ℕ) → countBy (λ s. alike (s .0) v) all ≡ min 1 (holders-in cells v)
+
 -- what a cell of setpoints holds, and what a standing says
 abbrev pub shown : Cell ℕ → Held
 shown c = shows setpoint-rules (λ row. row ∷ []) c
@@ -68,8 +72,15 @@ shown c = shows setpoint-rules (λ row. row ∷ []) c
 abbrev pub told : Standing → List ℕ × ℕ × ℕ
 told s = (tenths-of (s .value), s .holding, s .otherwise)
 
--- A poll of an input: the proposals in it, and the standings of their cells; or the refusal of a block with no controller or more than 16. Want of memory tells nothing.
+-- The poll of an input: the proposals in it, and the standings of their cells.
+pub record Counted (input : List ℕ) (p : Poll) : Type 0 where
+  pub sized-well : sized (length (pieces input)) ≡ Ok tt
+  pub proposals : map (meant tenths-of) (vec-items (p .proposals)) ≡ proposed input
+  pub standings : map told (vec-items (p .standings)) ≡ standings-of (cells-of (proposed input))
+  pub once : Once (cells-of (proposed input)) (map told (vec-items (p .standings)))
+
+-- A poll, or the refusal of a block with no controller or more than 16. Want of memory tells nothing.
 abbrev pub Polled : List ℕ → Result Poll Fault → Type 0
-Polled input (Ok p) = (sized (length (pieces input)) ≡ Ok tt) × (map (meant tenths-of) (vec-items (p .proposals)) ≡ proposed input) × (map told (vec-items (p .standings)) ≡ standings-of (cells-of (proposed input)))
+Polled input (Ok p) = Counted input p
 Polled input (Err (Refused e)) = sized (length (pieces input)) ≡ Err e
 Polled input (Err NoMemory) = Unit {0}

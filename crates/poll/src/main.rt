@@ -5,7 +5,6 @@ use polls::Poll;
 use polls::hold;
 use std::io;
 use std::io::Read;
-use values::kinds::Kind;
 
 // One byte more than the largest block has: enough to see that an input is too long.
 const MOST_BYTES: u64 = 33;

@@ -8,14 +8,14 @@ mod counting;
 
 pub use counting::hold;
 
-// What the controllers of a block propose, and how each distinct value stands, in order of first appearance.
+/// What the controllers of a block propose, and how each distinct value stands, in order of first appearance.
 #[derive(Drop)]
 pub struct Poll {
     pub proposals: Vec<Result<Setpoint, Refusal>>,
     pub standings: Vec<Standing>,
 }
 
-// A distinct value, with how many cells hold it and how many are filled otherwise.
+/// A distinct value, with how many cells hold it and how many are filled otherwise.
 #[derive(Drop)]
 pub struct Standing {
     pub value: Setpoint,
@@ -23,7 +23,7 @@ pub struct Standing {
     pub otherwise: usize,
 }
 
-// Why no poll was held.
+/// Why no poll was held.
 #[derive(Drop)]
 pub enum Fault {
     Refused(Refusal),

@@ -1,4 +1,4 @@
-// Tests of the public calls of the other crates, and a value kind as a stranger would build one.
+//! Tests of the public calls of the other crates, and a value kind as a stranger would build one.
 #[cfg(test)]
 mod cell_tests;
 #[cfg(test)]

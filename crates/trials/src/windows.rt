@@ -4,7 +4,7 @@ mod kind;
 
 pub use kind::WindowKind;
 
-// A part of the day in which vents may open, in minutes from midnight: from one to another that is not before it.
+/// A part of the day in which vents may open, in minutes from midnight: from one to another that is not before it.
 #[derive(Clone, Copy)]
 pub struct Window {
     from: u16,

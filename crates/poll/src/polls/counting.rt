@@ -1,6 +1,6 @@
 ghost use mathlib.Core.Path.{_≡_};
-ghost use mathlib.Core.List.{List, map};
-ghost use Prim.Native.Nat.{ℕ, _<_};
+ghost use mathlib.Core.List.{map};
+ghost use Prim.Native.Nat.{_<_};
 ghost use lib.ListN.{length};
 ghost use Rattle.std.specs.Results.{okPart};
 ghost use Rattle.std.specs.Of.Vec.{vec-items};
@@ -99,7 +99,7 @@ fn standings(heap: Global, cells: &[Cell<u16>]) -> Result<Vec<Standing>, AllocEr
     Ok(found)
 }
 
-// Reads the proposals of one block and counts each distinct value.
+/// Reads the proposals of one block and counts each distinct value.
 pub fn hold(heap: Global, input: &[u8]) -> Result<Poll, Fault>
     ensures { λ r. ⌜ Polled (now (input .entry)) r ⌝ }
 {

@@ -1,6 +1,5 @@
 ghost use mathlib.Core.Path.{_≡_};
-ghost use mathlib.Core.List.{List, [], _∷_};
-ghost use Prim.Native.Nat.{ℕ};
+ghost use mathlib.Core.List.{[], _∷_};
 ghost use Rattle.std.specs.Options.{mapped};
 ghost use Rattle.values.specs.Rules.{lawful};
 ghost use Rattle.trials.specs.Windows.{window-rules, minutes-of};
@@ -10,6 +9,7 @@ use values::kinds::Kind;
 use values::refusals::Refusal;
 
 impl Window {
+    /// The window between two minutes, if they are in order and within a day.
     pub fn new(from: u16, until: u16) -> Option<Window>
         ensures { λ r. ⌜ mapped minutes-of r ≡ lawful window-rules (from ∷ until ∷ []) ⌝ }
     {

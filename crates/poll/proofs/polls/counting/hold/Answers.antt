@@ -1,4 +1,4 @@
-use mathlib.Core.Path.{_≡_, sym, ap, _∙_}
+use mathlib.Core.Path.{_≡_, sym, ap, subst, _∙_}
 use mathlib.Core.List.{List, map}
 use Prim.Native.Nat.{ℕ}
 use lib.ListN.{length}
@@ -10,7 +10,8 @@ use Rattle.values.specs.declared.refusals.Refusal.{Refusal}
 use Rattle.values.specs.declared.setpoints.Setpoint.{Setpoint}
 use Rattle.values.specs.Rules.{reads, meant}
 use Rattle.values.specs.Setpoints.{setpoint-rules, tenths-of}
-use Rattle.poll.specs.Polls.{pieces, proposed, cells-of, sized, shown, standings-of}
+use Rattle.poll.specs.Polls.{pieces, proposed, cells-of, sized, shown, standings-of, told, Once}
+use Rattle.poll.proofs.Once.{once}
 use Rattle.poll.proofs.polls.counting.hold.Needs as need
 
 -- there is a proposal for each piece
@@ -30,8 +31,11 @@ returns c =
     let read : map (meant tenths-of) items ≡ proposed input = c .in-Continue-proposals .ensures tt in
     let size : c .len .result ≡ length (pieces input) = c .len .ensures ∙ c .in-Continue-proposals .proposals .ok .0 ∙ as-many items input read in
     let lent : c .deref .result .now ≡ items = c .deref .ensures .value in
-    let cells : map shown (vec-items (c .in-Continue-cells .cells)) ≡ cells-of (proposed input) = c .in-Continue-cells .ensures tt ∙ ap (λ ps. cells-of (map (meant tenths-of) ps)) lent ∙ ap cells-of read in (
-      ap sized (sym size) ∙ sym (c .check-size .ensures) ∙ c .in-Continue-check-size .was tt,
-      read,
-      c .in-Continue-standings .ensures tt ∙ ap (λ cs. standings-of (map shown cs)) (c .deref-2 .ensures .value) ∙ ap standings-of cells,
-    )
+    let cells : map shown (vec-items (c .in-Continue-cells .cells)) ≡ cells-of (proposed input) = c .in-Continue-cells .ensures tt ∙ ap (λ ps. cells-of (map (meant tenths-of) ps)) lent ∙ ap cells-of read in
+    let stand : map told (vec-items (c .in-Continue-standings .standings)) ≡ standings-of (cells-of (proposed input)) = c .in-Continue-standings .ensures tt ∙ ap (λ cs. standings-of (map shown cs)) (c .deref-2 .ensures .value) ∙ ap standings-of cells in
+    record {
+      sized-well = ap sized (sym size) ∙ sym (c .check-size .ensures) ∙ c .in-Continue-check-size .was tt;
+      proposals = read;
+      standings = stand;
+      once = subst (Once (cells-of (proposed input))) (sym stand) (once (cells-of (proposed input)));
+    }

@@ -1,4 +1,4 @@
-use mathlib.Core.Path.{_≡_, refl, sym, ap, _∙_}
+use mathlib.Core.Path.{sym, ap, _∙_}
 use mathlib.Core.List.{_++_, map, append-nil}
 use Rattle.std.specs.Of.Vec.{vec-items}
 use Rattle.std.specs.Parts.{chunks-rest, chunks-size}

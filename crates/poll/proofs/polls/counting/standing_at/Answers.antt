@@ -1,8 +1,6 @@
 use mathlib.Core.Path.{_≡_, sym, ap, _∙_}
-use mathlib.Core.List.{List, [], _∷_, map}
-use Prim.Native.Nat.{ℕ}
+use mathlib.Core.List.{[], _∷_, map}
 use native.Mathlib.Omega.{arith}
-use lib.ListN.{length}
 use Rattle.values.specs.Rules.{stands}
 use Rattle.values.specs.Setpoints.{setpoint-rules, tenths-of}
 use Rattle.values.specs.Cells.{holders-in, others-in}
