@@ -41,15 +41,15 @@ fn shares_total_at_most_1000() -> Result<(), Fail> {
         read(&[0x2c, 1, 0x2c, 1, 200, 0, 100, 0]),
         Ok((300, 300, 200, 100)),
     )?;
-    check(Sheet::new(shares(1000, 0, 0, 0)).is_some())?;
-    check(Sheet::new(shares(1000, 0, 0, 1)).is_none())
+    check(Sheet::checked(&shares(1000, 0, 0, 0)).is_some())?;
+    check(Sheet::checked(&shares(1000, 0, 0, 1)).is_none())
 }
 
 #[test]
 fn the_total_does_not_wrap() -> Result<(), Fail> {
     check_eq(read(&[0xff, 0xff, 1, 0, 0, 0, 0, 0]), Err(24))?;
-    check(Sheet::new(shares(65535, 1, 0, 0)).is_none())?;
-    check(Sheet::new(shares(65535, 65535, 65535, 65535)).is_none())
+    check(Sheet::checked(&shares(65535, 1, 0, 0)).is_none())?;
+    check(Sheet::checked(&shares(65535, 65535, 65535, 65535)).is_none())
 }
 
 #[test]

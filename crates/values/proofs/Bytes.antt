@@ -1,30 +1,17 @@
--- Reading, for the proof of any kind.
-use mathlib.Core.Path.{_≡_, refl, sym, ap, _∙_}
+-- The numbers in bytes, for the proof of any kind.
+use mathlib.Core.Path.{_≡_, sym, ap, _∙_}
 use mathlib.Core.List.{List, [], _∷_}
 use Prim.Native.Nat.{ℕ, zero, suc, _+_, _*_}
 use native.Mathlib.Omega.{arith}
 use lib.ListN.{length, getD, drop}
-use Rattle.std.specs.Options.{mapped, okOr}
-use Rattle.std.specs.declared.option.Option.{Option}
-use Rattle.std.specs.declared.option.Option.the-variants.{Some, None}
+use Rattle.std.specs.declared.option.Option.the-variants.{Some}
 use Rattle.std.proofs.shelf.Lists.{drop-all, drop-more}
 use Rattle.std.proofs.shelf.Tests.{cond-true, eq-eqb}
-use Rattle.values.specs.declared.refusals.Refusal.{Refusal}
-use Rattle.values.specs.declared.refusals.Refusal.the-variants.{Value}
-use Rattle.values.specs.Rules.{Rules, lawful, words, reads, meant}
+use Rattle.values.specs.Rules.{Rules, words, decodes}
 
 -- the number of two bytes
 abbrev pub word-at : List ℕ → ℕ → ℕ
 word-at bytes i = getD bytes i 0 + getD bytes (i + 1) 0 * 256
-
-meant-or : {V : Type 0} (m : V → List ℕ) (o : Option V) → meant m (okOr {E = Refusal} o Value) ≡ okOr (mapped m o) Value
-meant-or m None = refl
-meant-or m (Some v) = refl
-
--- a kind that reads as many bytes as its width, and makes a value of the numbers in them if they keep the rule, reads as it should
-pub reads-as : {V : Type 0} (k : Rules) (m : V → List ℕ) (bytes numbers : List ℕ) (o : Option V) → length bytes ≡ k .width → words bytes ≡ numbers → mapped m o ≡ lawful k numbers → meant m (okOr {E = Refusal} o Value) ≡ reads k bytes
-reads-as k m bytes numbers o l w e =
-    meant-or m o ∙ ap (λ q. okOr {E = Refusal} q Value) (e ∙ ap (lawful k) (sym w)) ∙ sym (cond-true _ _ _ (eq-eqb _ _ l))
 
 -- the numbers of the two bytes at i, at i + 2 and so on
 abbrev pub numbers-from : ℕ → ℕ → List ℕ → List ℕ
@@ -42,3 +29,7 @@ words-from (suc n) i bytes h =
 -- twice n bytes hold n numbers
 pub words-are : (n : ℕ) (bytes : List ℕ) → length bytes ≡ 2 * n → words bytes ≡ numbers-from n 0 bytes
 words-are n bytes h = words-from n 0 bytes (omega arith)
+
+-- a kind that takes as many bytes as its width for these numbers decodes as it should
+pub decodes-as : (k : Rules) (bytes numbers : List ℕ) → length bytes ≡ k .width → words bytes ≡ numbers → Some numbers ≡ decodes k bytes
+decodes-as k bytes numbers l w = ap Some (sym w) ∙ sym (cond-true _ _ _ (eq-eqb _ _ l))

@@ -1,11 +1,11 @@
 -- What a value kind fixes, and what rows, bytes and text mean under it. Assumes nothing.
 use mathlib.Core.List.{List, [], _∷_, _++_}
-use mathlib.Core.Bool.{Bool, cond}
+use mathlib.Core.Bool.{Bool, cond, _&&_}
 use Prim.Native.Nat.{ℕ, _+_, _*_}
 use lib.Dec.{eqb}
 use lib.ListN.{length}
 use Rattle.std.specs.Written.{decimal}
-use Rattle.std.specs.Options.{valueOr, okOr}
+use Rattle.std.specs.Options.{valueOr}
 use Rattle.std.specs.declared.option.Option.{Option}
 use Rattle.std.specs.declared.option.Option.the-variants.{Some, None}
 use Rattle.std.specs.declared.result.Result.{Result}
@@ -37,9 +37,13 @@ words [] = []
 words (low ∷ []) = []
 words (low ∷ high ∷ rest) = (low + high * 256) ∷ words rest
 
+-- the numbers in exactly as many bytes as the width
+abbrev pub decodes : Rules → List ℕ → Option (List ℕ)
+decodes k bytes = cond (eqb (length bytes) (k .width)) (Some (words bytes)) None
+
 -- reading: exactly as many bytes as the width, whose numbers keep the rule, or the refusal of a value
 abbrev pub reads : Rules → List ℕ → Result (List ℕ) Refusal
-reads k bytes = cond (eqb (length bytes) (k .width)) (okOr (lawful k (words bytes)) Value) (Err Value)
+reads k bytes = cond (eqb (length bytes) (k .width) && k .allowed (words bytes)) (Ok (words bytes)) (Err Value)
 
 -- what was read, by its meaning
 abbrev pub meant : {V E : Type 0} → (V → List ℕ) → Result V E → Result (List ℕ) E

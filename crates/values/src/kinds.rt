@@ -4,9 +4,10 @@ ghost use mathlib.Core.Bool.{true};
 ghost use Prim.Native.Nat.{ℕ, _*_};
 ghost use denote.Ref.{name};
 ghost use lib.ListN.{length};
+ghost use Rattle.std.specs.Options.{mapped};
 ghost use Rattle.std.specs.Orderings.{Decides};
 ghost use Rattle.values.specs.Added.{Added};
-ghost use Rattle.values.specs.Rules.{Rules, means, reads, meant, text};
+ghost use Rattle.values.specs.Rules.{Rules, lawful, means, decodes, reads, meant, text};
 use crate::buffers::Buffer;
 use crate::refusals::Refusal;
 
@@ -52,17 +53,34 @@ pub trait Kind: Sized + Drop {
         ensures numbers { λ r. ⌜ plain r ≡ meaning (now (self .entry)) ⌝ }
         ensures back { λ r. ⌜ means rules plain r ≡ meaning (now (self .entry)) ⌝ };
 
+    /// The value with a row's numbers, if they keep the rule.
+    fn checked(row: &Self::Row) -> Option<Self>
+        ensures { λ r. ⌜ mapped meaning r ≡ lawful rules (plain (now (row .entry))) ⌝ };
+
     /// The value that a row means: its own, or the fallback where it breaks the rule.
     fn value(row: &Self::Row) -> Self
-        ensures { λ v. ⌜ meaning v ≡ means rules plain (now (row .entry)) ⌝ };
+        ensures { λ v. ⌜ meaning v ≡ means rules plain (now (row .entry)) ⌝ }
+    {
+        Self::checked(row).unwrap_or(Self::fallback())
+    }
 
     /// Whether two values are the same: exactly if they mean equal numbers.
     fn same(&self, other: &Self) -> bool
         ensures { λ r. ⌜ Decides r (meaning (now (self .entry)) ≡ meaning (now (other .entry))) ⌝ };
 
-    /// Reads a value from as many bytes as its width, in numbers of two bytes, low byte first.
+    /// The row in exactly as many bytes as the width: numbers of two bytes, low byte first.
+    fn decode(bytes: &[u8]) -> Option<Self::Row>
+        ensures { λ r. ⌜ mapped plain r ≡ decodes rules (now (bytes .entry)) ⌝ };
+
+    /// Reads a value: bytes that are too few or too many, or break the rule, are refused.
     fn read(bytes: &[u8]) -> Result<Self, Refusal>
-        ensures { λ r. ⌜ meant meaning r ≡ reads rules (now (bytes .entry)) ⌝ };
+        ensures { λ r. ⌜ meant meaning r ≡ reads rules (now (bytes .entry)) ⌝ }
+    {
+        let Some(row) = Self::decode(bytes) else {
+            return Err(Refusal::Value);
+        };
+        Self::checked(&row).ok_or(Refusal::Value)
+    }
 
     /// Adds the value's numbers to a text, in decimal and parted by one blank.
     fn write(&self, out: &mut Buffer)

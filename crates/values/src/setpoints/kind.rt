@@ -1,25 +1,11 @@
 ghost use mathlib.Core.Path.{_≡_};
 ghost use mathlib.Core.List.{[], _∷_};
-ghost use Rattle.std.specs.Options.{mapped};
-ghost use Rattle.values.specs.Rules.{lawful};
 ghost use Rattle.values.specs.Setpoints.{setpoint-rules, tenths-of};
 use crate::buffers::Buffer;
 use crate::kinds::Kind;
-use crate::refusals::Refusal;
 use crate::setpoints::Setpoint;
 
 impl Setpoint {
-    /// The setpoint of so many tenths, if they are in range.
-    pub fn new(tenths: u16) -> Option<Setpoint>
-        ensures { λ r. ⌜ mapped tenths-of r ≡ lawful setpoint-rules (tenths ∷ []) ⌝ }
-    {
-        if 200 <= tenths && tenths <= 900 {
-            Some(Setpoint { tenths })
-        } else {
-            None
-        }
-    }
-
     /// The setpoint in tenths of a degree Celsius.
     pub fn tenths(&self) -> u16
         ensures { λ r. ⌜ r ≡ now (self .entry) .tenths ⌝ }
@@ -51,20 +37,24 @@ pub impl Kind for Setpoint as SetpointKind {
         self.tenths
     }
 
-    fn value(row: &u16) -> Setpoint {
-        Setpoint::new(*row).unwrap_or(Self::fallback())
+    fn checked(row: &u16) -> Option<Setpoint> {
+        let tenths = *row;
+        if 200 <= tenths && tenths <= 900 {
+            Some(Setpoint { tenths })
+        } else {
+            None
+        }
     }
 
     fn same(&self, other: &Setpoint) -> bool {
         self.tenths == other.tenths
     }
 
-    fn read(bytes: &[u8]) -> Result<Setpoint, Refusal> {
+    fn decode(bytes: &[u8]) -> Option<u16> {
         if bytes.len() != Self::WIDTH {
-            return Err(Refusal::Value);
+            return None;
         }
-        let tenths = u16::from_le_bytes([bytes[0], bytes[1]]);
-        Setpoint::new(tenths).ok_or(Refusal::Value)
+        Some(u16::from_le_bytes([bytes[0], bytes[1]]))
     }
 
     fn write(&self, out: &mut Buffer) {

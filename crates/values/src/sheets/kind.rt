@@ -1,11 +1,8 @@
 ghost use mathlib.Core.Path.{_≡_};
-ghost use Rattle.std.specs.Options.{mapped};
 ghost use Rattle.std.specs.shelf.Lists.{sum};
-ghost use Rattle.values.specs.Rules.{lawful};
 ghost use Rattle.values.specs.Sheets.{sheet-rules, shares-of, plain-shares};
 use crate::buffers::Buffer;
 use crate::kinds::Kind;
-use crate::refusals::Refusal;
 use crate::sheets::Shares;
 use crate::sheets::Sheet;
 
@@ -17,29 +14,6 @@ impl Shares {
         let front = u32::from(self.zone0) + u32::from(self.zone1);
         let back = u32::from(self.zone2) + u32::from(self.zone3);
         front + back
-    }
-}
-
-impl Sheet {
-    /// The sheet of these shares, if they total at most 1000.
-    pub fn new(shares: Shares) -> Option<Sheet>
-        ensures { λ r. ⌜ mapped shares-of r ≡ lawful sheet-rules (plain-shares shares) ⌝ }
-    {
-        if shares.total() > 1000 {
-            return None;
-        }
-        let Shares {
-            zone0,
-            zone1,
-            zone2,
-            zone3,
-        } = shares;
-        Some(Sheet {
-            zone0,
-            zone1,
-            zone2,
-            zone3,
-        })
     }
 }
 
@@ -76,8 +50,16 @@ pub impl Kind for Sheet as SheetKind {
         }
     }
 
-    fn value(row: &Shares) -> Sheet {
-        Sheet::new(*row).unwrap_or(Self::fallback())
+    fn checked(row: &Shares) -> Option<Sheet> {
+        if row.total() > 1000 {
+            return None;
+        }
+        Some(Sheet {
+            zone0: row.zone0,
+            zone1: row.zone1,
+            zone2: row.zone2,
+            zone3: row.zone3,
+        })
     }
 
     fn same(&self, other: &Sheet) -> bool {
@@ -87,17 +69,16 @@ pub impl Kind for Sheet as SheetKind {
             && self.zone3 == other.zone3
     }
 
-    fn read(bytes: &[u8]) -> Result<Sheet, Refusal> {
+    fn decode(bytes: &[u8]) -> Option<Shares> {
         if bytes.len() != Self::WIDTH {
-            return Err(Refusal::Value);
+            return None;
         }
-        let shares = Shares {
+        Some(Shares {
             zone0: u16::from_le_bytes([bytes[0], bytes[1]]),
             zone1: u16::from_le_bytes([bytes[2], bytes[3]]),
             zone2: u16::from_le_bytes([bytes[4], bytes[5]]),
             zone3: u16::from_le_bytes([bytes[6], bytes[7]]),
-        };
-        Sheet::new(shares).ok_or(Refusal::Value)
+        })
     }
 
     fn write(&self, out: &mut Buffer) {
