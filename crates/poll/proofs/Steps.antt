@@ -1,7 +1,7 @@
 -- One turn of each loop of a poll.
 use mathlib.Core.Path.{_≡_, refl, sym, ap, _∙_}
 use mathlib.Core.List.{List, [], _∷_, _++_, map, append-assoc, map-append}
-use Prim.Native.Nat.{ℕ, min, _+_, _-_, _<_}
+use Prim.Native.Nat.{ℕ, min, _+_, _-_, _/_, _%_, _<_}
 use native.Mathlib.Omega.{arith}
 use native.Mathlib.Numerals.{add-one}
 use lib.ListN.{length, take, getD}
@@ -22,6 +22,12 @@ use Rattle.values.specs.declared.cells.Cell.the-variants.{Empty, Filled}
 use Rattle.values.proofs.Seen.{holders-list}
 use Rattle.poll.specs.declared.polls.Standing.{Standing}
 use Rattle.poll.specs.Polls.{pieces, proposed, cells-of, unseen, first-shown, distinct, counted, shown, told}
+
+-- a piece for each two bytes, and for the odd one
+pub length-pieces : (input : List ℕ) → length (pieces input) ≡ length input / 2 + min 1 (length input % 2)
+length-pieces [] = refl
+length-pieces (a ∷ []) = refl
+length-pieces (a ∷ b ∷ rest) = omega (arith, length-pieces rest)
 
 -- two bytes, or the one that is left, are a piece
 pieces-split : (piece rest : List ℕ) → length piece ≡ min 2 (length piece + length rest) → 0 < length piece → pieces (piece ++ rest) ≡ piece ∷ pieces rest

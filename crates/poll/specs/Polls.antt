@@ -73,14 +73,14 @@ abbrev pub told : Standing → List ℕ × ℕ × ℕ
 told s = (tenths-of (s .value), s .holding, s .otherwise)
 
 -- The poll of an input: the proposals in it, and the standings of their cells.
-pub record Counted (input : List ℕ) (p : Poll) : Type 0 where
-  pub sized-well : sized (length (pieces input)) ≡ Ok tt
+pub record PollOf (input : List ℕ) (p : Poll) : Type 0 where
+  pub size : sized (length (pieces input)) ≡ Ok tt
   pub proposals : map (meant tenths-of) (vec-items (p .proposals)) ≡ proposed input
   pub standings : map told (vec-items (p .standings)) ≡ standings-of (cells-of (proposed input))
   pub once : Once (cells-of (proposed input)) (map told (vec-items (p .standings)))
 
--- A poll, or the refusal of a block with no controller or more than 16. Want of memory tells nothing.
+-- A poll; or the refusal of a block with no controller or more than 16, which comes before any want of memory.
 abbrev pub Polled : List ℕ → Result Poll Fault → Type 0
-Polled input (Ok p) = Counted input p
+Polled input (Ok p) = PollOf input p
 Polled input (Err (Refused e)) = sized (length (pieces input)) ≡ Err e
-Polled input (Err NoMemory) = Unit {0}
+Polled input (Err NoMemory) = sized (length (pieces input)) ≡ Ok tt

@@ -7,7 +7,7 @@ ghost use Rattle.std.specs.Of.Vec.{vec-items};
 ghost use Rattle.std.specs.Vec.{made, listOf};
 ghost use Rattle.values.specs.Rules.{meant};
 ghost use Rattle.values.specs.Setpoints.{tenths-of};
-ghost use Rattle.poll.specs.Polls.{proposed, cells-of, sized, shown, first-shown, counted, standings-of, told, Polled};
+ghost use Rattle.poll.specs.Polls.{pieces, proposed, cells-of, sized, shown, first-shown, counted, standings-of, told, Polled};
 use crate::polls::Fault;
 use crate::polls::FaultFromAllocError;
 use crate::polls::FaultFromRefusal;
@@ -31,6 +31,13 @@ fn read_proposals(heap: Global, input: &[u8]) -> Result<Vec<Result<Setpoint, Ref
         proposals.push(Setpoint::read(bytes))?;
     }
     Ok(proposals)
+}
+
+// How many controllers propose: an odd byte at the end counts as one.
+fn controllers(input: &[u8]) -> usize
+    ensures { λ n. ⌜ n ≡ length (pieces (now (input .entry))) ⌝ }
+{
+    input.len().div_ceil(Setpoint::WIDTH)
 }
 
 // A block has 1 to 16 controllers.
@@ -103,8 +110,8 @@ fn standings(heap: Global, cells: &[Cell<u16>]) -> Result<Vec<Standing>, AllocEr
 pub fn hold(heap: Global, input: &[u8]) -> Result<Poll, Fault>
     ensures { λ r. ⌜ Polled (now (input .entry)) r ⌝ }
 {
+    check_size(controllers(input))?;
     let proposals = read_proposals(heap, input)?;
-    check_size(proposals.len())?;
     let cells = cells_of(heap, &proposals)?;
     let standings = standings(heap, &cells)?;
     Ok(Poll {
