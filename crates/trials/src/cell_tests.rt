@@ -1,3 +1,4 @@
+use crate::sheet_tests::shares;
 use std::test::*;
 use values::cells::Cell;
 use values::cells::same_value;
@@ -5,7 +6,6 @@ use values::cells::tally;
 use values::cells::winner;
 use values::setpoints::Setpoint;
 use values::setpoints::SetpointKind;
-use values::sheets::Shares;
 use values::sheets::Sheet;
 use values::sheets::SheetKind;
 
@@ -56,24 +56,9 @@ fn the_lowest_place_wins() -> Result<(), Fail> {
 
 #[test]
 fn sheets_are_counted_alike() -> Result<(), Fail> {
-    let even = Shares {
-        zone0: 250,
-        zone1: 250,
-        zone2: 250,
-        zone3: 250,
-    };
-    let broken = Shares {
-        zone0: 65535,
-        zone1: 1,
-        zone2: 0,
-        zone3: 0,
-    };
-    let last = Shares {
-        zone0: 250,
-        zone1: 250,
-        zone2: 250,
-        zone3: 249,
-    };
+    let even = shares(250, 250, 250, 250);
+    let broken = shares(65535, 1, 0, 0);
+    let last = shares(250, 250, 250, 249);
     let cells = [
         Cell::Filled(last),
         Cell::Filled(broken),

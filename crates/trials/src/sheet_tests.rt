@@ -5,7 +5,7 @@ use values::sheets::Shares;
 use values::sheets::Sheet;
 use values::sheets::SheetKind;
 
-fn shares(zone0: u16, zone1: u16, zone2: u16, zone3: u16) -> Shares {
+pub fn shares(zone0: u16, zone1: u16, zone2: u16, zone3: u16) -> Shares {
     Shares {
         zone0,
         zone1,

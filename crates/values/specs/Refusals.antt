@@ -1,4 +1,4 @@
--- The number of each refusal, as it is told to people and written into listings.
+-- The number by which people know each refusal.
 use Prim.Native.Nat.{ℕ}
 use Rattle.values.specs.declared.refusals.Refusal.{Refusal}
 use Rattle.values.specs.declared.refusals.Refusal.the-variants.{BlockSize, Value}
