@@ -1,0 +1,4 @@
+pub mod Sets
+pub mod Laws
+pub mod Standards
+pub mod Stamps
