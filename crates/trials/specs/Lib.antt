@@ -1,1 +1,3 @@
+pub mod Leaving
+pub mod Unlawful
 pub mod Windows
