@@ -1,5 +1,4 @@
 -- How many controllers can pass a test, by how many are in the sets before and now.
-use mathlib.Core.Path.{_≡_}
 use mathlib.Core.Bool.{Bool}
 use Prim.Native.Nat.{ℕ, zero, suc, _+_, _*_, _≤_, _<_, min}
 use native.Mathlib.Nat.{mul-add, add-mul, mul-le-mul-left}

@@ -1,6 +1,6 @@
 -- The models of the table are lawful.
-use mathlib.Core.Path.{_≡_, refl, sym, ap, ap₂, _∙_, subst}
-use mathlib.Core.Bool.{Bool, true, false}
+use mathlib.Core.Path.{_≡_, sym, ap, ap₂, _∙_, subst}
+use mathlib.Core.Bool.{Bool, true}
 use Prim.Native.Nat.{ℕ, _+_, _*_, _≤_, min}
 use native.Mathlib.Omega.{arith}
 use borrow.Author.Tests.{eqb-true}
@@ -11,7 +11,7 @@ use Rattle.models.specs.declared.classes.Class.the-variants.{Honest}
 use Rattle.models.specs.declared.standards.Standard.{Standard}
 use Rattle.models.specs.declared.standards.Standard.the-variants.{Aware, Unaware, Buffered, Carried, Fixed}
 use Rattle.models.specs.Sets.{has}
-use Rattle.models.specs.Laws.{Meaning, Move, Lawful, faulty, free, forging}
+use Rattle.models.specs.Laws.{Move, Lawful, faulty, free, forging}
 use Rattle.models.specs.Standards.{entry, class-in, standard}
 use Rattle.models.proofs.Bounds.{at-most}
 

@@ -1,8 +1,6 @@
 -- The stamp layer over any model. Assumes nothing.
-use Prim.Native.Nat.{ℕ}
 use Rattle.models.specs.declared.classes.Class.{Class}
 use Rattle.models.specs.declared.classes.Class.the-variants.{Honest, Silent, Uniform, Free}
-use Rattle.models.specs.declared.classes.Counts.{Counts}
 use Rattle.models.specs.Laws.{Meaning}
 
 -- who is free becomes uniform

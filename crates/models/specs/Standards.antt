@@ -1,7 +1,7 @@
 -- The five models, one row of a table for each. Assumes nothing.
 use mathlib.Core.Path.{_≡_}
 use mathlib.Core.List.{List, [], _∷_}
-use mathlib.Core.Bool.{Bool, true, false, cond}
+use mathlib.Core.Bool.{Bool, true, cond}
 use Prim.Native.Nat.{ℕ, _*_, min}
 use lib.Dec.{eqb}
 use Rattle.std.specs.Options.{Cases}

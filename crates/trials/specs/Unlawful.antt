@@ -1,19 +1,12 @@
--- Two meanings that no law should accept.
-use mathlib.Core.Bool.{true, false}
+-- What no lawful model can be: one that calls everybody honest, or one that allows no move.
+use mathlib.Core.Path.{_≡_}
+use mathlib.Core.Bool.{false}
 use Prim.Native.Nat.{ℕ}
-use Rattle.models.specs.declared.classes.Class.the-variants.{Honest, Free}
+use Rattle.models.specs.declared.classes.Class.the-variants.{Honest}
 use Rattle.models.specs.Laws.{Meaning}
 
-abbrev pub all-honest : Meaning
-all-honest = record {
-  allowed = λ before now t. true;
-  class = λ before now t i. Honest;
-  counts = λ t. record { b = 48; e = 48; l = 48 };
-}
+abbrev pub AllHonest : Meaning → Type 0
+AllHonest m = (before now t i : ℕ) → m .class before now t i ≡ Honest
 
-abbrev pub no-move : Meaning
-no-move = record {
-  allowed = λ before now t. false;
-  class = λ before now t i. Free;
-  counts = λ t. record { b = 48; e = 48; l = 48 };
-}
+abbrev pub NoMove : Meaning → Type 0
+NoMove m = (before now t : ℕ) → m .allowed before now t ≡ false

@@ -42,9 +42,10 @@ pub impl LawfulModel for Leaving as LeavingLawful {
     fn lawful(&self) {}
 }
 
-/// Whether a set of at most t controllers may stay as it is: under a lawful model it may.
+/// Whether a set may stay as it is: under a lawful model a set of at most t controllers may.
 pub fn may_stay<M: LawfulModel>(model: &M, set: Set, t: usize) -> bool
-    ensures { λ r. ⌜ (Few (set .0) t → r ≡ true) ⌝ }
+    ensures value { λ r. ⌜ r ≡ M·Model .meaning (now (model .entry)) .allowed (set .0) (set .0) t ⌝ }
+    ensures law { λ r. ⌜ (Few (set .0) t → r ≡ true) ⌝ }
 {
     model.lawful();
     model.allows(set, set, t)
@@ -52,7 +53,8 @@ pub fn may_stay<M: LawfulModel>(model: &M, set: Set, t: usize) -> bool
 
 /// The same with stamps on the model, twice.
 pub fn may_stay_stamped<M: LawfulModel + Copy>(model: M, set: Set, t: usize) -> bool
-    ensures { λ r. ⌜ (Few (set .0) t → r ≡ true) ⌝ }
+    ensures value { λ r. ⌜ r ≡ M·Model .meaning model .allowed (set .0) (set .0) t ⌝ }
+    ensures law { λ r. ⌜ (Few (set .0) t → r ≡ true) ⌝ }
 {
     may_stay(&Stamped(Stamped(model)), set, t)
 }

@@ -1,12 +1,12 @@
-ghost use Rattle.models.specs.Laws.{Lawful};
-ghost use Rattle.trials.specs.Unlawful.{all-honest, no-move};
+ghost use Rattle.models.specs.Laws.{Meaning, Lawful};
+ghost use Rattle.trials.specs.Unlawful.{AllHonest, NoMove};
 
-/// A model that calls every controller honest is not lawful.
+/// No model that calls every controller honest is lawful.
 pub fn all_honest_is_unlawful()
-    ensures { λ _. ⌜ (Lawful all-honest → ⊥) ⌝ }
+    ensures { λ _. ⌜ ((m : Meaning) → AllHonest m → Lawful m → ⊥) ⌝ }
 {}
 
-/// A model that allows no move is not lawful.
+/// No model that allows no move is lawful.
 pub fn no_move_is_unlawful()
-    ensures { λ _. ⌜ (Lawful no-move → ⊥) ⌝ }
+    ensures { λ _. ⌜ ((m : Meaning) → NoMove m → Lawful m → ⊥) ⌝ }
 {}

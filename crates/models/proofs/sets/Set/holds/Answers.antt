@@ -1,5 +1,4 @@
-use mathlib.Core.Path.{ap, sym, _∙_}
-use mathlib.Core.Bool.{false}
+use mathlib.Core.Path.{ap}
 use Prim.Native.Nat.{ℕ, _/_, _^_}
 use native.Mathlib.Omega.{arith}
 use lib.Dec.{eqb}

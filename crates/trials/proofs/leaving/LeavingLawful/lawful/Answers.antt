@@ -1,18 +1,18 @@
 use mathlib.Core.Path.{_≡_, refl, sym, ap, ap₂, _∙_}
 use mathlib.Core.Bool.{Bool, true, false}
-use Prim.Native.Nat.{ℕ, zero, suc, _+_, _*_, _/_, _%_, _^_, _≤_, _<_, min}
+use Prim.Native.Nat.{ℕ, zero, suc, _+_, _*_, _/_, _%_, _^_, _≤_, _<_}
 use native.Mathlib.Nat.{mod-lt}
 use native.Mathlib.Omega.{arith}
 use borrow.Author.Tests.{eqb-true, eq-eqb}
 use lib.Dec.{eqb, lit<}
 use lib.Bits.{bitAnd, and-shr, and-mod, and-self}
-use Rattle.values.specs.Counting.{tick, count}
+use Rattle.values.specs.Counting.{tick}
 use Rattle.models.specs.declared.classes.Class.{Class}
 use Rattle.models.specs.declared.classes.Class.the-variants.{Honest}
 use Rattle.models.specs.Sets.{has}
-use Rattle.models.specs.Laws.{Move, faulty, free, forging}
+use Rattle.models.specs.Laws.{faulty, free, forging}
 use Rattle.models.proofs.Bounds.{at-most}
-use Rattle.trials.specs.Leaving.{leaving, within, left-class}
+use Rattle.trials.specs.Leaving.{within, left-class}
 use Rattle.trials.proofs.leaving.LeavingLawful.lawful.Needs as need
 
 digits : (d e : ℕ) → d < 2 → e < 2 → bitAnd d e ≡ e → tick (eqb e 1) ≤ tick (eqb d 1)
