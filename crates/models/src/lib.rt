@@ -1,4 +1,6 @@
 //! Models of faults: how far faults may move among the controllers of a block, and how a controller then behaves.
+#![tactic(auto)]
+
 ghost use Rattle.std.specs.Prelude.{◌≡◌};
 ghost use Rattle.models.specs.Laws.{Meaning, Bounded, Capped, Lawful};
 

@@ -4,14 +4,14 @@ ghost use Rattle.std.proofs.Common.{rules};
 
 use crate::classes::{Class, Counts};
 use crate::sets::Set;
-use crate::{LawfulModel, Model};
+use crate::{LawfulModel, Model as FaultModel};
 
 /// A model whose controllers stamp what they send by a trusted counter: what is sent once cannot be told
 /// otherwise to another, so nobody is free.
 #[derive(Clone, Copy)]
 pub struct Stamped<M>(pub M);
 
-pub impl<M: Model> Model for Stamped<M> as StampedModel {
+impl<M: FaultModel> FaultModel for Stamped<M> {
     ghost meaning = { λ s. stamped (M.Model.meaning s.0) };
 
     ghost bounded = { Prim.search rules };
@@ -38,8 +38,8 @@ pub impl<M: Model> Model for Stamped<M> as StampedModel {
 }
 
 /// Stamps on a lawful model make a lawful model, whatever the model.
-pub fn stamps_keep_the_laws<M: Model>(model: &M)
-    ensures { Lawful (meaning model.now) → Lawful (stamped (meaning model.now)) }
+pub fn stamps_keep_the_laws<M: FaultModel>(model: &M)
+    ensures { Lawful (M.meaning model.now) → Lawful (stamped (M.meaning model.now)) }
 {}
 
 impl<M: LawfulModel> LawfulModel for Stamped<M> {

@@ -4,7 +4,7 @@ ghost use Rattle.std.proofs.Common.{rules};
 
 use crate::classes::{Class, Counts};
 use crate::sets::Set;
-use crate::{LawfulModel, Model};
+use crate::{LawfulModel, Model as FaultModel};
 
 /// The five models of the literature.
 #[derive(Clone, Copy, PartialEq, Eq, Debug)]
@@ -54,7 +54,7 @@ impl Standard {
     }
 }
 
-pub impl Model for Standard as StandardModel {
+impl FaultModel for Standard {
     ghost meaning = { standard };
 
     ghost bounded = { Prim.search rules };

@@ -1,3 +1,5 @@
+#![tactic(auto)]
+
 mod polls;
 
 use polls::{Fault, Poll, hold};

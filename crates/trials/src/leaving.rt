@@ -6,13 +6,13 @@ ghost use Rattle.std.proofs.Common.{rules};
 use models::classes::{Class, Counts};
 use models::sets::Set;
 use models::stamps::Stamped;
-use models::{LawfulModel, Model};
+use models::{LawfulModel, Model as FaultModel};
 
 /// A model of faults as a stranger would build one: a fault stays or leaves for good, and who was left keeps silent.
 #[derive(Clone, Copy)]
 pub struct Leaving;
 
-pub impl Model for Leaving as LeavingModel {
+impl FaultModel for Leaving {
     ghost meaning = { λ _. leaving };
 
     ghost bounded = { Prim.search rules };

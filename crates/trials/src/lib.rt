@@ -1,4 +1,6 @@
 //! Tests of the public calls of the other crates, and a value kind and a model of faults as strangers would build them.
+#![tactic(auto)]
+
 #[cfg(test)]
 mod cell_tests;
 pub mod leaving;

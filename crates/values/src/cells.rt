@@ -14,15 +14,15 @@ pub enum Cell<R> {
 
 /// Whether two rows stand for the same value.
 pub fn same_value<K: Kind>(a: &K::Row, b: &K::Row) -> bool
-    ensures { Decides result (means rules plain a.now ≡ means rules plain b.now) }
+    ensures { Decides result (means K.rules K.plain a.now ≡ means K.rules K.plain b.now) }
 {
     K::value(a).same(&K::value(b))
 }
 
 /// How many cells hold the row's value, and how many are filled otherwise.
 pub fn tally<K: Kind>(cells: &[Cell<K::Row>], row: &K::Row) -> (usize, usize)
-    ensures held { result.0 ≡ holders (seen rules plain cells.now) (length cells.now) (means rules plain row.now) }
-    ensures otherwise { result.1 ≡ others (seen rules plain cells.now) (length cells.now) (means rules plain row.now) }
+    ensures held { result.0 ≡ holders (seen K.rules K.plain cells.now) (length cells.now) (means K.rules K.plain row.now) }
+    ensures otherwise { result.1 ≡ others (seen K.rules K.plain cells.now) (length cells.now) (means K.rules K.plain row.now) }
 {
     let mut held: usize = 0;
     let mut otherwise: usize = 0;
@@ -45,7 +45,7 @@ fn wins<K: Kind>(
     at_least: usize,
     otherwise_at_most: usize,
 ) -> bool
-    ensures { result ≡ qualifies at_least otherwise_at_most (seen rules plain cells.now) (length cells.now) (means rules plain row.now) }
+    ensures { result ≡ qualifies at_least otherwise_at_most (seen K.rules K.plain cells.now) (length cells.now) (means K.rules K.plain row.now) }
 {
     let (held, otherwise) = tally::<K>(cells, row);
     held >= at_least && otherwise <= otherwise_at_most
@@ -57,8 +57,8 @@ pub fn winner<K: Kind>(
     at_least: usize,
     otherwise_at_most: usize,
 ) -> Option<usize>
-    ensures value { result ≡ winning at_least otherwise_at_most (seen rules plain cells.now) (length cells.now) }
-    ensures law { IsLowest (qualifying at_least otherwise_at_most (seen rules plain cells.now) (length cells.now)) (length cells.now) result }
+    ensures value { result ≡ winning at_least otherwise_at_most (seen K.rules K.plain cells.now) (length cells.now) }
+    ensures law { IsLowest (qualifying at_least otherwise_at_most (seen K.rules K.plain cells.now) (length cells.now)) (length cells.now) result }
 {
     for (i, cell) in cells.iter().enumerate() {
         if let Cell::Filled(row) = cell {

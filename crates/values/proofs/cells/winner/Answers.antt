@@ -13,7 +13,7 @@ unfolding passes
 loop-i-preserved g c =
     let cells = c.args.cells.now in
     let here = seen_at g.K.Kind.rules g.K.Kind.plain cells c.loop-i.i c.index-cells-i.result c.loop-i-test.true c.index-cells-i.is in
-    let more = lowest_more (qualifying c.args.at-least c.args.otherwise-at-most (seen g.K.Kind.rules g.K.Kind.plain cells) (length cells)) c.loop-i.i in
+    let more = lowest_more (qualifying c.args.at_least c.args.otherwise_at_most (seen g.K.Kind.rules g.K.Kind.plain cells) (length cells)) c.loop-i.i in
     grind arith
 
 pub returns-then-wins : goal.returns-then-wins
@@ -21,7 +21,7 @@ unfolding passes
 returns-then-wins g c =
     let cells = c.args.cells.now in
     let n = length cells in
-    let p = qualifying c.args.at-least c.args.otherwise-at-most (seen g.K.Kind.rules g.K.Kind.plain cells) n in
+    let p = qualifying c.args.at_least c.args.otherwise_at_most (seen g.K.Kind.rules g.K.Kind.plain cells) n in
     let here = seen_at g.K.Kind.rules g.K.Kind.plain cells c.loop-i.i c.index-cells-i.result c.loop-i-test.true c.index-cells-i.is in
     let pass : p c.loop-i.i ≡ true = grind arith in
     let found = lowest_stays p n c.loop-i.i c.loop-i.invariant (omega arith) pass in
@@ -31,7 +31,7 @@ pub returns : goal.returns
 returns g c =
     let cells = c.args.cells.now in
     let n = length cells in
-    let p = qualifying c.args.at-least c.args.otherwise-at-most (seen g.K.Kind.rules g.K.Kind.plain cells) n in
+    let p = qualifying c.args.at_least c.args.otherwise_at_most (seen g.K.Kind.rules g.K.Kind.plain cells) n in
     let end : c.loop-i.i ≡ n = omega arith in
     let none : lowest p n ≡ None = subst (λ i. lowest p i ≡ None) end c.loop-i.invariant in
     record { value = sym none; law = subst (IsLowest p n) none (lowest_is p n) }

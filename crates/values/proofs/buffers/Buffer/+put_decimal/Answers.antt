@@ -9,14 +9,14 @@ use Rattle.values.proofs.buffers.Buffer.+put_decimal.Goals.{then-number-ge10, el
 pub returns : goal.returns
 returns t c =
     let n = c.args.number in
-    let last : Buffer → Type 0 = λ b. Added b ((48 + n % 10) ∷ []) c.put-byte.new.self in
+    let last : Buffer → Type 0 = λ b. Added b ((48 + n % 10) ∷ []) c.put_byte.new.self in
     elim c.if-number-ge10.branch [
       | then-number-ge10 w ↦ record {
-        named = c.put-byte.ensures.named ∙ ap (λ (b : Buffer). b.room.ghost_name) w.self-is ∙ w.put-decimal.ensures.named;
-        added = adding.said (sym (decimal_step n (omega arith) (omega arith))) (adding.chain w.put-decimal.ensures.added (subst last w.self-is c.put-byte.ensures.added));
+        named = c.put_byte.ensures.named ∙ ap (λ (b : Buffer). b.room.ghost_name) w.self-is ∙ w.put_decimal.ensures.named;
+        added = adding.said (sym (decimal_step n (omega arith) (omega arith))) (adding.chain w.put_decimal.ensures.added (subst last w.self-is c.put_byte.ensures.added));
       }
       | else-number-ge10 w ↦ record {
-        named = c.put-byte.ensures.named ∙ ap (λ (b : Buffer). b.room.ghost_name) w.self-is;
-        added = adding.said (let e : 48 + n % 10 ≡ 48 + n = omega arith in ap (λ d. d ∷ []) e ∙ sym (decimal_digit n (omega arith))) (subst last w.self-is c.put-byte.ensures.added);
+        named = c.put_byte.ensures.named ∙ ap (λ (b : Buffer). b.room.ghost_name) w.self-is;
+        added = adding.said (let e : 48 + n % 10 ≡ 48 + n = omega arith in ap (λ d. d ∷ []) e ∙ sym (decimal_digit n (omega arith))) (subst last w.self-is c.put_byte.ensures.added);
       }
     ]

@@ -15,15 +15,15 @@ loop-i-preserved c =
     let xs = c.args.numbers.now in
     let i = c.loop-i.i in
     let lt = c.loop-i-test.true in
-    let digits : Buffer → Type 0 = λ b. Added b (decimal (get_or xs i 0)) c.put-decimal.new.self in
+    let digits : Buffer → Type 0 = λ b. Added b (decimal (get_or xs i 0)) c.put_decimal.new.self in
     elim c.if-i-gt0.branch [
       | then-i-gt0 w ↦ (
-        c.put-decimal.ensures.named ∙ ap (λ (b : Buffer). b.room.ghost_name) w.self-is ∙ w.put-byte.ensures.named ∙ c.loop-i.invariant.0,
-        adding.said (text_more xs i w.if-i-gt0.true lt) (adding.chain c.loop-i.invariant.1 (adding.chain w.put-byte.ensures.added (subst digits w.self-is c.put-decimal.ensures.added))),
+        c.put_decimal.ensures.named ∙ ap (λ (b : Buffer). b.room.ghost_name) w.self-is ∙ w.put_byte.ensures.named ∙ c.loop-i.invariant.0,
+        adding.said (text_more xs i w.if-i-gt0.true lt) (adding.chain c.loop-i.invariant.1 (adding.chain w.put_byte.ensures.added (subst digits w.self-is c.put_decimal.ensures.added))),
       )
       | else-i-gt0 w ↦ (
-        c.put-decimal.ensures.named ∙ ap (λ (b : Buffer). b.room.ghost_name) w.self-is ∙ c.loop-i.invariant.0,
-        adding.said (text_first xs i (omega (arith, w.if-i-gt0.false)) lt) (adding.chain c.loop-i.invariant.1 (subst digits w.self-is c.put-decimal.ensures.added)),
+        c.put_decimal.ensures.named ∙ ap (λ (b : Buffer). b.room.ghost_name) w.self-is ∙ c.loop-i.invariant.0,
+        adding.said (text_first xs i (omega (arith, w.if-i-gt0.false)) lt) (adding.chain c.loop-i.invariant.1 (subst digits w.self-is c.put_decimal.ensures.added)),
       )
     ]
 

@@ -8,6 +8,6 @@ pub returns : goal.returns
 returns c =
     let bytes = c.args.bytes.now in
     let l : length bytes ≡ 4 = omega arith in
-    let minutes = c.from-le-bytes-from.result ∷ c.from-le-bytes-until.result ∷ [] in
+    let minutes = c.from_le_bytes-from.result ∷ c.from_le_bytes-until.result ∷ [] in
     let numbers : words bytes ≡ minutes = words_are 2 bytes l ∙ (cc) in
     decodes_as window_rules bytes minutes l numbers

@@ -7,4 +7,4 @@ pub returns : goal.returns
 returns c =
     let bytes = c.args.bytes.now in
     let l : length bytes ≡ 2 = omega arith in
-    decodes_as setpoint_rules bytes (c.from-le-bytes.result ∷ []) l (words_are 1 bytes l ∙ ap (λ n. n ∷ []) (sym c.from-le-bytes.ensures))
+    decodes_as setpoint_rules bytes (c.from_le_bytes.result ∷ []) l (words_are 1 bytes l ∙ ap (λ n. n ∷ []) (sym c.from_le_bytes.ensures))
