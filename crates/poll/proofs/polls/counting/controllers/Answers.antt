@@ -3,4 +3,4 @@ use Rattle.poll.proofs.Steps.{length-pieces}
 use Rattle.poll.proofs.polls.counting.controllers.Goals as goal
 
 pub returns : goal.returns
-returns c = c.div-ceil.ensures ∙ sym (length-pieces c.args.input.now)
+returns c = c.div_ceil.ensures ∙ sym (length-pieces c.args.input.now)

@@ -9,9 +9,9 @@ use Rattle.poll.proofs.polls.counting.read_proposals.Goals as goal
 
 pub loop-bytes-init : goal.loop-bytes-init
 loop-bytes-init c =
-    let it = c.into-iter-bytes-iterator.ensures.into-iter-gives in (
+    let it = c.into_iter-bytes-iterator.ensures.into_iter_gives in (
       ap chunks_size it ∙ c.chunks-bytes-items.ensures.size,
-      ap (λ vs. map (meant tenths_of) vs ++ proposed (chunks_rest c.into-iter-bytes-iterator.result)) c.new-proposals.ensures.items ∙ ap proposed (ap chunks_rest it ∙ c.chunks-bytes-items.ensures.rest),
+      ap (λ vs. map (meant tenths_of) vs ++ proposed (chunks_rest c.into_iter-bytes-iterator.result)) c.new-proposals.ensures.items ∙ ap proposed (ap chunks_rest it ∙ c.chunks-bytes-items.ensures.rest),
     )
 
 pub loop-bytes-preserved : goal.loop-bytes-preserved
@@ -20,7 +20,7 @@ loop-bytes-preserved c =
     let inv = c.loop-bytes.invariant in (
       steps.0 ∙ inv.0,
       proposals_more (vec_items c.loop-bytes.proposals) (vec_items c.push.new.self) c.read.result c.args.input.now (chunks_rest c.loop-bytes.bytes-iterator) c.in-Some.bytes.now (chunks_rest c.next.new.self) (chunks_size c.loop-bytes.bytes-iterator)
-          c.in-ok-push.ensures.items c.read.ensures inv.0 steps.1.0 steps.1.1 steps.1.2 inv.1,
+          c.in_ok-push.ensures.items c.read.ensures inv.0 steps.1.0 steps.1.1 steps.1.2 inv.1,
     )
 
 pub returns : goal.returns

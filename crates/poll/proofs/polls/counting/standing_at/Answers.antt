@@ -7,8 +7,8 @@ use Rattle.poll.specs.Polls.{shown, counted}
 use Rattle.poll.proofs.Steps.{first_empty, first_again, first_new}
 use Rattle.poll.proofs.polls.counting.standing_at.Goals as goal
 
-pub returns-in-default : goal.returns-in-default
-returns-in-default c = ap (map (counted (map shown c.args.cells.now))) (sym (first_empty c.args.cells.now c.args.i c.requires c.in-default.is))
+pub returns-in_default : goal.returns-in_default
+returns-in_default c = ap (map (counted (map shown c.args.cells.now))) (sym (first_empty c.args.cells.now c.args.i c.requires c.in_default.is))
 
 pub returns-then-earlier-gt0 : goal.returns-then-earlier-gt0
 returns-then-earlier-gt0 c =
