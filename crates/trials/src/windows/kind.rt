@@ -1,6 +1,6 @@
 ghost use Rattle.std.specs.Prelude.{[], ◌∷◌};
 ghost use Rattle.trials.specs.Windows.{window_rules, minutes_of};
-ghost use Rattle.std.proofs.Common.{rules, arith};
+ghost use Rattle.std.proofs.Common.{rules};
 
 use crate::windows::Window;
 use values::buffers::Buffer;
@@ -17,11 +17,11 @@ impl Kind for Window {
 
     ghost plain = { λ r. r.0 ∷ r.1 ∷ [] };
 
-    ghost kept = { first_of (Prim.search rules, Prim.grind (arith, Self.row.coded.inj)) };
+    ghost kept = { Prim.search rules };
 
-    ghost falls = { first_of (Prim.search rules, Prim.grind (arith, Self.row.coded.inj)) };
+    ghost falls = { Prim.search rules };
 
-    ghost sized = { first_of (Prim.search rules, Prim.grind (arith, Self.row.coded.inj)) };
+    ghost sized = { Prim.search rules };
 
     fn byte_width() -> usize {
         Self::WIDTH

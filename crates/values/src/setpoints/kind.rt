@@ -1,6 +1,6 @@
 ghost use Rattle.std.specs.Prelude.{◌≡◌, [], ◌∷◌};
 ghost use Rattle.values.specs.Setpoints.{setpoint_rules, tenths_of};
-ghost use Rattle.std.proofs.Common.{rules, arith};
+ghost use Rattle.std.proofs.Common.{rules};
 
 use crate::buffers::Buffer;
 use crate::kinds::Kind;
@@ -26,11 +26,11 @@ impl Kind for Setpoint {
 
     ghost plain = { λ r. r ∷ [] };
 
-    ghost kept = { first_of (Prim.search rules, Prim.grind (arith, Self.row.coded.inj)) };
+    ghost kept = { Prim.search rules };
 
-    ghost falls = { first_of (Prim.search rules, Prim.grind (arith, Self.row.coded.inj)) };
+    ghost falls = { Prim.search rules };
 
-    ghost sized = { first_of (Prim.search rules, Prim.grind (arith, Self.row.coded.inj)) };
+    ghost sized = { Prim.search rules };
 
     fn byte_width() -> usize {
         Self::WIDTH

@@ -1,6 +1,6 @@
 ghost use Rattle.std.specs.Prelude.{◌≡◌, sum};
 ghost use Rattle.values.specs.Sheets.{sheet_rules, shares_of, plain_shares};
-ghost use Rattle.std.proofs.Common.{rules, arith};
+ghost use Rattle.std.proofs.Common.{rules};
 
 use crate::buffers::Buffer;
 use crate::kinds::Kind;
@@ -28,11 +28,11 @@ impl Kind for Sheet {
 
     ghost plain = { plain_shares };
 
-    ghost kept = { first_of (Prim.search rules, Prim.grind (arith, Self.row.coded.inj)) };
+    ghost kept = { Prim.search rules };
 
-    ghost falls = { first_of (Prim.search rules, Prim.grind (arith, Self.row.coded.inj)) };
+    ghost falls = { Prim.search rules };
 
-    ghost sized = { first_of (Prim.search rules, Prim.grind (arith, Self.row.coded.inj)) };
+    ghost sized = { Prim.search rules };
 
     fn byte_width() -> usize {
         Self::WIDTH
