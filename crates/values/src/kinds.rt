@@ -14,7 +14,7 @@ pub trait Kind: Sized + Drop {
     /// A value as it lies in a cell: plain numbers, under no rule.
     type Row: Copy;
 
-    /// The width of a value in bytes. Clauses cannot cite it, so `byte_width` ties it to the rules.
+    /// The width of a value in bytes. Clauses and generic code go by `byte_width`, which is tied to the rules.
     const WIDTH: usize;
 
     // the rule, the fallback and the width
