@@ -1,12 +1,11 @@
 -- What a poll of a block reads and counts. Assumes nothing.
-use Rattle.std.specs.Prelude.{◌≡◌, ℕ, zero, suc, min, cond, ◌&&◌, List, [], ◌∷◌, ◌++◌, map, length, take, Some, None, Ok, Err, vec_items, count_by, Result, ◌==◌, nat_le, slice_index_or}
+use Rattle.std.specs.Prelude.{◌≡◌, ℕ, zero, suc, min, if◌then◌else◌, ◌&&◌, List, [], ◌∷◌, ◌++◌, map, length, take, Some, None, Ok, Err, count_by, Option, Result, ◌==◌, nat_le, slice_index_or, codes, decimal}
 use Rattle.std.specs.Result.{result_ok}
 use Rattle.values.specs.declared.refusals.Refusal.{Refusal}
 use Rattle.values.specs.declared.refusals.Refusal.TheVariants.{BlockSize}
-use Rattle.values.specs.Rules.{reads, meant}
+use Rattle.values.specs.Rules.{reads, meant, text}
 use Rattle.values.specs.Setpoints.{setpoint_rules, tenths_of}
 use Rattle.values.specs.Cells.{Held, alike, shows, holders_in, others_in}
-use Rattle.values.specs.declared.cells.Cell.{Cell}
 use Rattle.poll.specs.declared.polls.Standing.{Standing}
 use Rattle.poll.specs.declared.polls.Poll.{Poll}
 use Rattle.poll.specs.declared.polls.Fault.{Fault}
@@ -28,12 +27,12 @@ cells_of proposals = map result_ok proposals
 
 -- a block has 1 to 16 controllers
 abbrev pub sized : ℕ → Result (Unit {0}) Refusal
-sized n = cond (nat_le 1 n && nat_le n 16) (Ok tt) (Err BlockSize)
+sized n = if nat_le 1 n && nat_le n 16 then Ok tt else Err BlockSize
 
 -- the value of a cell, if it is filled and none of the cells before it holds the same
 abbrev pub unseen : List Held → Held → List (List ℕ)
 unseen before None = []
-unseen before (Some v) = cond (holders_in before v == 0) (v ∷ []) []
+unseen before (Some v) = if holders_in before v == 0 then v ∷ [] else []
 
 -- the value that appears first at place i, if one does
 abbrev pub first_shown : List Held → ℕ → List (List ℕ)
@@ -56,18 +55,22 @@ abbrev pub Once : List Held → List (List ℕ × ℕ × ℕ) → Type 0
 Once cells all = (v : List ℕ) → count_by (λ s. alike s.0 v) all ≡ min 1 (holders_in cells v)
 
 -- what a cell of setpoints holds, and what a standing says
-abbrev pub shown : Cell ℕ → Held
+abbrev pub shown : Option ℕ → Held
 shown c = shows setpoint_rules (λ row. row ∷ []) c
 
 abbrev pub told : Standing → List ℕ × ℕ × ℕ
 told s = (tenths_of s.value, s.holding, s.otherwise)
 
+-- what is printed of a standing
+abbrev pub line_of : Standing → List ℕ
+line_of s = codes "value " ++ (text (tenths_of s.value) ++ (codes ": held by " ++ (decimal s.holding ++ (codes ", filled otherwise " ++ decimal s.otherwise))))
+
 -- The poll of an input: the proposals in it, and the standings of their cells.
 pub record PollOf (input : List ℕ) (p : Poll) : Type 0 where
   pub size : sized (length (pieces input)) ≡ Ok tt
-  pub proposals : map (meant tenths_of) (vec_items p.proposals) ≡ proposed input
-  pub standings : map told (vec_items p.standings) ≡ standings_of (cells_of (proposed input))
-  pub once : Once (cells_of (proposed input)) (map told (vec_items p.standings))
+  pub proposals : map (meant tenths_of) p.proposals.items ≡ proposed input
+  pub standings : map told p.standings.items ≡ standings_of (cells_of (proposed input))
+  pub once : Once (cells_of (proposed input)) (map told p.standings.items)
 
 -- A poll; or the refusal of a block with no controller or more than 16, which comes before any want of memory.
 abbrev pub Polled : List ℕ → Result Poll Fault → Type 0

@@ -1,7 +1,8 @@
-ghost use Rattle.std.specs.Prelude.{◌≡◌};
+ghost use Rattle.std.specs.Prelude.{◌≡◌, Some};
 ghost use Rattle.poll.specs.declared.polls.Fault.TheVariants.{Refused, NoMemory};
 
 use std::alloc::AllocError;
+use std::fmt;
 use values::refusals::Refusal;
 use values::setpoints::Setpoint;
 
@@ -24,6 +25,42 @@ pub struct Standing {
     pub otherwise: usize,
 }
 
+impl fmt::Display for Standing {
+    ghost use Rattle.poll.specs.Polls.{line_of};
+
+    ghost output = { λ standing. Some (line_of standing) };
+
+    fn fmt<W: fmt::Write>(&self, f: &mut fmt::Formatter<W>) -> fmt::Result {
+        let Standing {
+            value,
+            holding,
+            otherwise,
+        } = self;
+        write!(
+            f,
+            "value {value}: held by {holding}, filled otherwise {otherwise}"
+        )
+    }
+}
+
+// What a poll prints is not promised: the gate compares it with the output of an example.
+impl fmt::Display for Poll {
+    fn fmt<W: fmt::Write>(&self, f: &mut fmt::Formatter<W>) -> fmt::Result {
+        let n = self.proposals.len();
+        writeln!(f, "proposals: {n}, setpoints in tenths of a degree Celsius")?;
+        for (controller, proposal) in self.proposals.iter().enumerate() {
+            match proposal {
+                Ok(setpoint) => writeln!(f, "controller {controller} proposes {setpoint}")?,
+                Err(refusal) => writeln!(f, "controller {controller} refused {refusal}")?,
+            }
+        }
+        for standing in &self.standings {
+            writeln!(f, "{standing}")?;
+        }
+        Ok(())
+    }
+}
+
 /// Why no poll was held.
 #[derive(Drop)]
 pub enum Fault {
@@ -31,6 +68,8 @@ pub enum Fault {
     NoMemory,
 }
 
+// Both by hand, since `hold` promises which error comes: the `From` that `thiserror` derives has no contract, and a
+// `map_err` at each `?` is no plainer.
 impl From<AllocError> for Fault {
     ghost from_gives = { λ _ r. r ≡ NoMemory };
 

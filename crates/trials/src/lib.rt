@@ -3,6 +3,8 @@
 
 #[cfg(test)]
 mod cell_tests;
+#[cfg(test)]
+mod helpers;
 pub mod leaving;
 #[cfg(test)]
 mod leaving_tests;

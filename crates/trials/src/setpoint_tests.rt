@@ -1,30 +1,23 @@
+use crate::helpers::read_row;
 use values::buffers::Buffer;
 use values::kinds::Kind;
 use values::setpoints::Setpoint;
 
-// The tenths that are read, or the number of the refusal.
-fn read(bytes: &[u8]) -> Result<u16, u8> {
-    match Setpoint::read(bytes) {
-        Ok(setpoint) => Ok(setpoint.tenths()),
-        Err(refusal) => Err(refusal.number()),
-    }
-}
-
 #[test]
 fn range_is_200_to_900(rt: HostRuntime) {
-    assert_eq!(rt; read(&[199, 0]), Err(24));
-    assert_eq!(rt; read(&[200, 0]), Ok(200));
-    assert_eq!(rt; read(&[132, 3]), Ok(900));
-    assert_eq!(rt; read(&[133, 3]), Err(24));
+    assert_eq!(rt; read_row::<Setpoint>(&[199, 0]), Err(24));
+    assert_eq!(rt; read_row::<Setpoint>(&[200, 0]), Ok(200));
+    assert_eq!(rt; read_row::<Setpoint>(&[132, 3]), Ok(900));
+    assert_eq!(rt; read_row::<Setpoint>(&[133, 3]), Err(24));
 }
 
 #[test]
 fn two_bytes_are_read_low_byte_first(rt: HostRuntime) {
-    assert_eq!(rt; read(&[0xf4, 0x01]), Ok(500));
-    assert_eq!(rt; read(&[0x01, 0xf4]), Err(24));
-    assert_eq!(rt; read(&[]), Err(24));
-    assert_eq!(rt; read(&[0xf4]), Err(24));
-    assert_eq!(rt; read(&[0xf4, 0x01, 0x00]), Err(24));
+    assert_eq!(rt; read_row::<Setpoint>(&[0xf4, 0x01]), Ok(500));
+    assert_eq!(rt; read_row::<Setpoint>(&[0x01, 0xf4]), Err(24));
+    assert_eq!(rt; read_row::<Setpoint>(&[]), Err(24));
+    assert_eq!(rt; read_row::<Setpoint>(&[0xf4]), Err(24));
+    assert_eq!(rt; read_row::<Setpoint>(&[0xf4, 0x01, 0x00]), Err(24));
 }
 
 #[test]

@@ -1,25 +1,26 @@
+use crate::helpers::quorum;
 use crate::windows::Window;
 use std::test::Fail;
 use values::buffers::Buffer;
-use values::cells::{Cell, tally, winner};
+use values::cells::{tally, winner};
 use values::kinds::Kind;
 
 #[test]
 fn a_strangers_kind_is_counted(rt: HostRuntime) {
     let cells = [
-        Cell::Filled((600, 500)),
-        Cell::Empty,
-        Cell::Filled((480, 1080)),
-        Cell::Filled((0, 60)),
-        Cell::Filled((0, 1441)),
+        Some((600, 500)),
+        None,
+        Some((480, 1080)),
+        Some((0, 60)),
+        Some((0, 1441)),
     ];
     assert_eq!(rt; tally::<Window>(&cells, &(480, 1080)), (3, 1));
     assert_eq!(rt; tally::<Window>(&cells, &(7, 6)), (3, 1));
     assert_eq!(rt; tally::<Window>(&cells, &(0, 61)), (0, 4));
-    assert_eq!(rt; winner::<Window>(&cells, 3, 1), Some(0));
-    assert_eq!(rt; winner::<Window>(&cells, 1, 3), Some(0));
-    assert_eq!(rt; winner::<Window>(&cells[1..5], 3, 0), None);
-    assert_eq!(rt; winner::<Window>(&cells, 4, 4), None);
+    assert_eq!(rt; winner::<Window>(&cells, quorum(3, 1)), Some(0));
+    assert_eq!(rt; winner::<Window>(&cells, quorum(1, 3)), Some(0));
+    assert_eq!(rt; winner::<Window>(&cells[1..5], quorum(3, 0)), None);
+    assert_eq!(rt; winner::<Window>(&cells, quorum(4, 4)), None);
 }
 
 #[test]

@@ -1,30 +1,24 @@
--- The numbers in bytes, for the proof of any kind.
-use Rattle.std.proofs.Common.{◌≡◌, ℕ, zero, suc, ◌+◌, ◌*◌, List, [], ◌∷◌, length, get_or, drop, Some, sym, ap, ◌∙◌, arith}
-use Rattle.std.proofs.lemmas.List.{drop_all, drop_more}
-use Rattle.std.proofs.lemmas.Bool.{cond-true, eq-eqb}
-use Rattle.values.specs.Rules.{Rules, words, decodes}
+-- The numbers in bytes, as an array of pairs of them.
+use Rattle.std.proofs.Common.{◌≡◌, ℕ, zero, suc, ◌+◌, ◌*◌, ◌<◌, ◌≤◌, List, [], ◌∷◌, map, length, get_or, w16, refl, ap, ◌∙◌, subst, ⊎_elim, arith}
+use Rattle.std.proofs.lemmas.Bool.{cases_lt}
+use Rattle.std.specs.Int.{from_le_bytes}
+use Rattle.std.specs.Simd.{first_chunks}
+use Rattle.std.specs.Array.{IsFromFnResultFrom}
+use denote.Param.Members.{Mut, Called}
+use Rattle.values.specs.Rules.{words}
 
--- the number of two bytes
-abbrev pub word_at : List ℕ → ℕ → ℕ
-word_at bytes i = get_or bytes i 0 + get_or bytes (i + 1) 0 * 256
+-- twice n bytes hold the numbers of n pairs
+pub words_pairs : (n : ℕ) (bytes : List ℕ) → length bytes ≡ 2 * n → words bytes ≡ map (from_le_bytes w16) (first_chunks 2 n bytes)
+words_pairs zero [] h = refl
+words_pairs zero (x ∷ bytes) h = absurd (omega arith)
+words_pairs (suc n) [] h = absurd (omega arith)
+words_pairs (suc n) (x ∷ []) h = absurd (omega arith)
+words_pairs (suc n) (x ∷ y ∷ bytes) h = ap (λ r. (x + y * 256) ∷ r) (words_pairs n bytes (omega arith))
 
--- the numbers of the two bytes at i, at i + 2 and so on
-abbrev pub numbers_from : ℕ → ℕ → List ℕ → List ℕ
-numbers_from zero i bytes = []
-numbers_from (suc n) i bytes = word_at bytes i ∷ numbers_from n (i + 2) bytes
-
-words_from : (n i : ℕ) (bytes : List ℕ) → length bytes ≡ i + 2 * n → words (drop i bytes) ≡ numbers_from n i bytes
-words_from zero i bytes h = ap words (drop_all i bytes (omega arith))
-words_from (suc n) i bytes h =
-    let two : drop (i + 1 + 1) bytes ≡ drop (i + 2) bytes = ap (λ k. drop k bytes) (omega arith) in
-    ap words (drop_more bytes i 0 (omega arith) ∙ ap (λ r. get_or bytes i 0 ∷ r) (drop_more bytes (i + 1) 0 (omega arith)))
-    ∙ ap (λ r. word_at bytes i ∷ words r) two
-    ∙ ap (λ r. word_at bytes i ∷ r) (words_from n (i + 2) bytes (omega arith))
-
--- twice n bytes hold n numbers
-pub words_are : (n : ℕ) (bytes : List ℕ) → length bytes ≡ 2 * n → words bytes ≡ numbers_from n 0 bytes
-words_are n bytes h = words_from n 0 bytes (omega arith)
-
--- a kind that takes as many bytes as its width for these numbers decodes as it should
-pub decodes_as : (k : Rules) (bytes numbers : List ℕ) → length bytes ≡ k.width → words bytes ≡ numbers → Some numbers ≡ decodes k bytes
-decodes_as k bytes numbers l w = ap Some (sym w) ∙ sym (cond-true _ _ _ (eq-eqb _ _ l))
+-- calls of a closure that stays as it is and gives h of each index
+module _ {F B : Type 0} (g : Mut F (ℕ × Unit {0}) B) (f : F) (h : ℕ → B) (pure : (i : ℕ) (y : B) (q : F) → Called g f (i, tt) y q → (y ≡ h i) × (q ≡ f)) where
+  pub made_at : (ys : List B) (i n j : ℕ) (d : B) → IsFromFnResultFrom g f ys i n → i ≤ j → j < i + n → get_or ys j d ≡ h j
+  made_at ys i zero j d r low high = absurd (omega arith)
+  made_at ys i (suc n) j d r low high =
+      let call = pure i r.1 r.0 r.3 in
+      ⊎_elim (λ lt. made_at ys (i + 1) n j d (subst (λ q. IsFromFnResultFrom g q ys (i + 1) n) call.1 r.4) (omega arith) (omega arith)) (λ ge. let here : i ≡ j = omega arith in subst (λ k. get_or ys k d ≡ h k) here (r.2.1 d ∙ call.0)) (cases_lt i j)

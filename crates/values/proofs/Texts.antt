@@ -8,10 +8,6 @@ text_push [] y h = absurd (omega arith)
 text_push (x ∷ []) y h = refl
 text_push (x ∷ z ∷ xs) y h = ap (λ r. decimal x ++ (32 ∷ r)) (text_push (z ∷ xs) y (omega arith)) ∙ sym (append_assoc (decimal x) (32 ∷ text (z ∷ xs)) (32 ∷ decimal y))
 
-pub text_first : (xs : List ℕ) (i : ℕ) → i ≡ 0 → i < length xs → text (take i xs) ++ decimal (get_or xs i 0) ≡ text (take (i + 1) xs)
-text_first [] i e h = absurd (omega arith)
-text_first (x ∷ xs) i e h = rw e
-
 pub text_more : (xs : List ℕ) (i : ℕ) → 0 < i → i < length xs → text (take i xs) ++ (32 ∷ decimal (get_or xs i 0)) ≡ text (take (i + 1) xs)
 text_more xs i pos h =
     let some : 0 < length (take i xs) = omega (arith, length-take-le i xs (omega arith)) in

@@ -8,3 +8,8 @@ pub record Added (a : Buffer) (bs : List ℕ) (b : Buffer) : Type 0 where
   pub text : take b.len b.room.now ≡ take (length a.room.now) (take a.len a.room.now ++ bs)
   pub rest : drop b.len b.room.now ≡ drop b.len a.room.now
   pub grows : a.len ≤ b.len
+
+-- What each call that writes does: it adds bytes to the text, in the same lent room.
+pub record Puts (a : Buffer) (bs : List ℕ) (b : Buffer) : Type 0 where
+  pub named : b.room.ghost_name ≡ a.room.ghost_name
+  pub added : Added a bs b

@@ -1,21 +1,19 @@
 -- Cells by what they mean: nothing, or the numbers of a value. Assumes nothing.
 use Rattle.std.specs.Prelude.{ℕ, Bool, true, false, not, ◌&&◌, List, [], ◌∷◌, map, Some, None, count_by, Option, ◌==◌, nat_le, slice_index_or}
+use Rattle.std.specs.Option.{option_map}
 use Rattle.values.specs.Rules.{Rules, means}
 use Rattle.values.specs.Counting.{count, lowest}
-use Rattle.values.specs.declared.cells.Cell.{Cell}
-use Rattle.values.specs.declared.cells.Cell.TheVariants.{Empty, Filled}
 
 -- a cell by its meaning
 abbrev pub Held : Type 0
 Held = Option (List ℕ)
 
 -- what a cell holds: nothing, or the value that its row means
-abbrev pub shows : {R : Type 0} → Rules → (R → List ℕ) → Cell R → Held
-shows k plain Empty = None
-shows k plain (Filled row) = Some (means k plain row)
+abbrev pub shows : {R : Type 0} → Rules → (R → List ℕ) → Option R → Held
+shows k plain cell = option_map (means k plain) cell
 
 -- what the cells of a list hold, by place; past the list there is nothing
-abbrev pub seen : {R : Type 0} → Rules → (R → List ℕ) → List (Cell R) → ℕ → Held
+abbrev pub seen : {R : Type 0} → Rules → (R → List ℕ) → List (Option R) → ℕ → Held
 seen k plain cells i = slice_index_or (map (shows k plain) cells) i None
 
 -- whether two values are the same: equal numbers, place by place

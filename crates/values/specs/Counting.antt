@@ -1,5 +1,5 @@
 -- Counting and choosing by number, over places 0 to n - 1, with the last place peeled. Assumes nothing.
-use Rattle.std.specs.Prelude.{◌≡◌, ℕ, zero, suc, ◌+◌, ◌<◌, Bool, true, false, cond, Some, None, Option, MatchOption}
+use Rattle.std.specs.Prelude.{◌≡◌, ℕ, zero, suc, ◌+◌, ◌<◌, Bool, true, false, if◌then◌else◌, Some, None, Option, MatchOption}
 use Rattle.std.specs.Option.{option_or}
 
 -- what one place adds to a count
@@ -15,7 +15,7 @@ count p (suc n) = tick (p n) + count p n
 -- the lowest place below n that passes a test
 unfoldable pub lowest : (ℕ → Bool) → ℕ → Option ℕ
 lowest p zero = None
-lowest p (suc n) = option_or (lowest p n) (cond (p n) (Some n) None)
+lowest p (suc n) = option_or (lowest p n) (if p n then Some n else None)
 
 -- the law of `lowest`: no place passes; or the place passes, and none below it does
 abbrev pub IsLowest : (ℕ → Bool) → ℕ → Option ℕ → Type 0

@@ -1,5 +1,5 @@
 -- What a value kind fixes, and what rows, bytes and text mean under it. Assumes nothing.
-use Rattle.std.specs.Prelude.{ℕ, ◌+◌, ◌*◌, Bool, cond, ◌&&◌, List, [], ◌∷◌, ◌++◌, length, Some, None, Ok, Err, decimal, Option, Result, ◌==◌}
+use Rattle.std.specs.Prelude.{ℕ, ◌+◌, ◌*◌, Bool, if◌then◌else◌, ◌&&◌, List, [], ◌∷◌, ◌++◌, length, Some, None, Ok, Err, decimal, Option, Result, ◌==◌}
 use Rattle.std.specs.Option.{unwrap_or}
 use Rattle.values.specs.declared.refusals.Refusal.{Refusal}
 use Rattle.values.specs.declared.refusals.Refusal.TheVariants.{Value}
@@ -12,7 +12,7 @@ pub record Rules : Type 0 where
 
 -- the value with these numbers, if the rule allows them
 abbrev pub lawful : Rules → List ℕ → Option (List ℕ)
-lawful k xs = cond (k.allowed xs) (Some xs) None
+lawful k xs = if k.allowed xs then Some xs else None
 
 -- the value that numbers stand for: they themselves, or the fallback where they break the rule
 abbrev pub stands : Rules → List ℕ → List ℕ
@@ -28,13 +28,17 @@ words [] = []
 words (low ∷ []) = []
 words (low ∷ high ∷ rest) = (low + high * 256) ∷ words rest
 
+-- n numbers in exactly twice as many bytes
+abbrev pub words_in : ℕ → List ℕ → Option (List ℕ)
+words_in n bytes = if length bytes == 2 * n then Some (words bytes) else None
+
 -- the numbers in exactly as many bytes as the width
 abbrev pub decodes : Rules → List ℕ → Option (List ℕ)
-decodes k bytes = cond (length bytes == k.width) (Some (words bytes)) None
+decodes k bytes = if length bytes == k.width then Some (words bytes) else None
 
 -- reading: exactly as many bytes as the width, whose numbers keep the rule, or the refusal of a value
 abbrev pub reads : Rules → List ℕ → Result (List ℕ) Refusal
-reads k bytes = cond (length bytes == k.width && k.allowed (words bytes)) (Ok (words bytes)) (Err Value)
+reads k bytes = if length bytes == k.width && k.allowed (words bytes) then Ok (words bytes) else Err Value
 
 -- what was read, by its meaning
 abbrev pub meant : {V E : Type 0} → (V → List ℕ) → Result V E → Result (List ℕ) E

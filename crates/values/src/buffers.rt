@@ -1,11 +1,68 @@
 ghost use Rattle.std.specs.Prelude.{◌≤◌, length};
 
-mod adding;
-
 /// A text in lent memory: the first `len` bytes of `room`. Where the room ends the text is cut.
+// Not a `String`: the way from a run file to a listing allocates nothing, so a length stands beside lent room. And not
+// written by `Display` through a `fmt::Write`: that promises its text only where the answer is `Ok`, and here it is always.
 #[derive(Drop)]
 pub struct Buffer<'a> {
     room: &'a mut [u8],
     len: usize,
     ghost within: { len ≤ length room.now },
+}
+
+impl<'a> Buffer<'a> {
+    ghost use Rattle.std.specs.Prelude.{◌≡◌, [], ◌∷◌, decimal};
+    ghost use Rattle.values.specs.Added.{Puts};
+    ghost use Rattle.values.specs.Rules.{text};
+
+    /// An empty text over `room`, whose bytes stay as they are.
+    pub fn over(room: &'a mut [u8]) -> Buffer<'a>
+        ensures named { result.room.ghost_name ≡ room.entry.ghost_name }
+        ensures value { (result.room.now ≡ room.old) × (result.len ≡ 0) }
+    {
+        Buffer { room, len: 0 }
+    }
+
+    /// The length of the text.
+    pub fn len(&self) -> usize
+        ensures { result ≡ self.now.len }
+    {
+        self.len
+    }
+
+    /// Adds one byte, if there is room.
+    pub fn put_byte(&mut self, byte: u8)
+        ensures { Puts self.old (byte ∷ []) self.new }
+    {
+        let at = self.len;
+        if at < self.room.len() {
+            self.room[at] = byte;
+            self.len = at + 1;
+        }
+    }
+
+    /// Adds a number in decimal.
+    // Digit by digit: `Display` is ruled out above, and a library for digits would be one more thing to trust.
+    pub fn put_decimal(&mut self, number: u16)
+        ensures { Puts self.old (decimal number) self.new }
+    {
+        if number >= 10 {
+            self.put_decimal(number / 10);
+        }
+        self.put_byte(b'0' + (number % 10) as u8);
+    }
+
+    /// Adds numbers in decimal, parted by one blank.
+    pub fn put_numbers(&mut self, numbers: &[u16])
+        ensures { Puts self.old (text numbers.now) self.new }
+    {
+        let Some((first, rest)) = numbers.split_first() else {
+            return;
+        };
+        self.put_decimal(*first);
+        for number in rest {
+            self.put_byte(b' ');
+            self.put_decimal(*number);
+        }
+    }
 }

@@ -1,20 +1,26 @@
-ghost use Rattle.std.specs.Prelude.{◌≡◌, length, Decides};
+ghost use Rattle.std.specs.Prelude.{◌≡◌, length, IsTrue, ◌↔◌};
 ghost use Rattle.values.specs.Rules.{means};
 ghost use Rattle.values.specs.Counting.{IsLowest};
-ghost use Rattle.values.specs.Cells.{seen, holders, others, qualifies, qualifying, winning};
+ghost use Rattle.values.specs.Cells.{shows, seen, holders, others, passes, qualifies, qualifying, winning};
 
 use crate::kinds::Kind;
 
-/// A place for a value, which lies in it as a row.
-#[derive(Clone, Copy)]
-pub enum Cell<R> {
-    Empty,
-    Filled(R),
+/// A place for a value, which lies in it as a row; `None` where it is empty.
+pub type Cell<R> = Option<R>;
+
+/// What a value needs to qualify: so many holders at least, while so many cells at most are filled otherwise.
+#[derive(Clone, Copy, PartialEq, Eq, Debug)]
+pub struct Quorum {
+    pub at_least: usize,
+    pub otherwise_at_most: usize,
 }
+
+// Clauses name `K.rules` with `K.plain`, and cells with their number. A member for what a row means would be no plainer:
+// each kind would have to tie it to these two by one law more. Definitions take the number apart from the cells.
 
 /// Whether two rows stand for the same value.
 pub fn same_value<K: Kind>(a: &K::Row, b: &K::Row) -> bool
-    ensures { Decides result (means K.rules K.plain a.now ≡ means K.rules K.plain b.now) }
+    ensures { IsTrue result ↔ (means K.rules K.plain a.now ≡ means K.rules K.plain b.now) }
 {
     K::value(a).same(&K::value(b))
 }
@@ -24,48 +30,36 @@ pub fn tally<K: Kind>(cells: &[Cell<K::Row>], row: &K::Row) -> (usize, usize)
     ensures held { result.0 ≡ holders (seen K.rules K.plain cells.now) (length cells.now) (means K.rules K.plain row.now) }
     ensures otherwise { result.1 ≡ others (seen K.rules K.plain cells.now) (length cells.now) (means K.rules K.plain row.now) }
 {
+    // A loop, since it counts both in one pass: `filter` with `count` makes one count each, and a `fold` over the pair is
+    // no plainer. The two go out as a pair, as the rules have them.
     let mut held: usize = 0;
     let mut otherwise: usize = 0;
     for cell in cells {
-        if let Cell::Filled(other) = cell {
-            if same_value::<K>(other, row) {
-                held += 1;
-            } else {
-                otherwise += 1;
-            }
+        match cell {
+            Some(other) if same_value::<K>(other, row) => held += 1,
+            Some(_) => otherwise += 1,
+            None => {}
         }
     }
     (held, otherwise)
 }
 
-// Whether the row's value has enough holders while few enough cells are filled otherwise.
-fn wins<K: Kind>(
-    cells: &[Cell<K::Row>],
-    row: &K::Row,
-    at_least: usize,
-    otherwise_at_most: usize,
-) -> bool
-    ensures { result ≡ qualifies at_least otherwise_at_most (seen K.rules K.plain cells.now) (length cells.now) (means K.rules K.plain row.now) }
+// Whether a cell is filled with a value that qualifies among the cells.
+fn qualifies<K: Kind>(cells: &[Cell<K::Row>], cell: &Cell<K::Row>, quorum: Quorum) -> bool
+    ensures { result ≡ passes (qualifies quorum.at_least quorum.otherwise_at_most (seen K.rules K.plain cells.now) (length cells.now)) (shows K.rules K.plain cell.now) }
 {
-    let (held, otherwise) = tally::<K>(cells, row);
-    held >= at_least && otherwise <= otherwise_at_most
+    cell.is_some_and(|row| {
+        let (held, otherwise) = tally::<K>(cells, &row);
+        held >= quorum.at_least && otherwise <= quorum.otherwise_at_most
+    })
 }
 
-/// The lowest place whose value has enough holders while few enough cells are filled otherwise.
-pub fn winner<K: Kind>(
-    cells: &[Cell<K::Row>],
-    at_least: usize,
-    otherwise_at_most: usize,
-) -> Option<usize>
-    ensures value { result ≡ winning at_least otherwise_at_most (seen K.rules K.plain cells.now) (length cells.now) }
-    ensures law { IsLowest (qualifying at_least otherwise_at_most (seen K.rules K.plain cells.now) (length cells.now)) (length cells.now) result }
+/// The lowest place whose value qualifies.
+pub fn winner<K: Kind>(cells: &[Cell<K::Row>], quorum: Quorum) -> Option<usize>
+    ensures value { result ≡ winning quorum.at_least quorum.otherwise_at_most (seen K.rules K.plain cells.now) (length cells.now) }
+    ensures law { IsLowest (qualifying quorum.at_least quorum.otherwise_at_most (seen K.rules K.plain cells.now) (length cells.now)) (length cells.now) result }
 {
-    for (i, cell) in cells.iter().enumerate() {
-        if let Cell::Filled(row) = cell {
-            if wins::<K>(cells, row, at_least, otherwise_at_most) {
-                return Some(i);
-            }
-        }
-    }
-    None
+    cells
+        .iter()
+        .position(|cell| qualifies::<K>(cells, cell, quorum))
 }

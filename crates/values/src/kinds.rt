@@ -1,6 +1,6 @@
-ghost use Rattle.std.specs.Prelude.{◌≡◌, ℕ, ◌*◌, true, List, length, Decides};
+ghost use Rattle.std.specs.Prelude.{◌≡◌, ℕ, ◌*◌, true, List, length, IsTrue, ◌↔◌};
 ghost use Rattle.std.specs.Option.{option_map};
-ghost use Rattle.values.specs.Added.{Added};
+ghost use Rattle.values.specs.Added.{Puts};
 ghost use Rattle.values.specs.Rules.{Rules, lawful, means, decodes, reads, meant, text};
 
 use crate::buffers::Buffer;
@@ -10,6 +10,8 @@ use crate::refusals::Refusal;
 ///
 /// Whoever builds a kind owes each clause and law below; code over any kind rests on them alone.
 /// No method alters a value, and only `read` refuses.
+// What has no body here names a kind's own fields or rule. `row` and `checked` are no `From` and `TryFrom`: the laws of a
+// kind would then have to tie the members of three traits.
 pub trait Kind: Sized + Drop {
     /// A value as it lies in a cell: plain numbers, under no rule.
     type Row: Copy;
@@ -27,6 +29,7 @@ pub trait Kind: Sized + Drop {
     ghost plain: { Self.Row → List ℕ };
 
     /// The width of a value in bytes.
+    // No body here: it could only answer `WIDTH`, and would need a tie of that to the rules, which no kind owes.
     fn byte_width() -> usize
         ensures { result ≡ rules.width };
 
@@ -51,8 +54,9 @@ pub trait Kind: Sized + Drop {
     }
 
     /// Whether two values are the same: exactly if they mean equal numbers.
+    // No body here: it could only be `==`, and would need a bound and a law of equality, which no kind owes.
     fn same(&self, other: &Self) -> bool
-        ensures { Decides result (meaning self.now ≡ meaning other.now) };
+        ensures { IsTrue result ↔ (meaning self.now ≡ meaning other.now) };
 
     /// The row in exactly as many bytes as the width: numbers of two bytes, low byte first.
     fn decode(bytes: &[u8]) -> Option<Self::Row>
@@ -62,16 +66,15 @@ pub trait Kind: Sized + Drop {
     fn read(bytes: &[u8]) -> Result<Self, Refusal>
         ensures { meant meaning result ≡ reads rules bytes.now }
     {
-        let Some(row) = Self::decode(bytes) else {
-            return Err(Refusal::Value);
-        };
-        Self::checked(&row).ok_or(Refusal::Value)
+        Self::decode(bytes)
+            .and_then(|row| Self::checked(&row))
+            .ok_or(Refusal::Value)
     }
 
     /// Adds the value's numbers to a text, in decimal and parted by one blank.
+    // Not `Display`, for the reason that stands at `Buffer`.
     fn write(&self, out: &mut Buffer)
-        ensures named { out.new.room.ghost_name ≡ out.old.room.ghost_name }
-        ensures added { Added out.old (text (meaning self.now)) out.new };
+        ensures { Puts out.old (text (meaning self.now)) out.new };
 
     // every value keeps the rule
     ghost kept: { (v : Self) → rules.allowed (meaning v) ≡ true };

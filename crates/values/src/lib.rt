@@ -7,3 +7,4 @@ pub mod kinds;
 pub mod refusals;
 pub mod setpoints;
 pub mod sheets;
+pub mod words;

@@ -1,10 +1,89 @@
-ghost use Rattle.std.specs.Prelude.{◌≤◌};
+ghost use Rattle.std.specs.Prelude.{◌≡◌, ◌≤◌, Some};
 
-mod kind;
+use crate::buffers::Buffer;
+use crate::kinds::Kind;
+use crate::words::words;
+use std::fmt;
 
 /// Supply water in tenths of a degree Celsius, from 200 to 900.
-#[derive(Clone, Copy)]
+#[derive(Clone, Copy, PartialEq, Eq, Debug)]
 pub struct Setpoint {
     tenths: u16,
     ghost range: { (200 ≤ tenths) × (tenths ≤ 900) },
+}
+
+impl Setpoint {
+    /// The setpoint in tenths of a degree Celsius.
+    pub fn tenths(&self) -> u16
+        ensures { result ≡ self.now.tenths }
+    {
+        self.tenths
+    }
+}
+
+impl fmt::Display for Setpoint {
+    ghost use Rattle.values.specs.Rules.{text};
+    ghost use Rattle.values.specs.Setpoints.{tenths_of};
+
+    ghost output = { λ setpoint. Some (text (tenths_of setpoint)) };
+
+    fn fmt<W: fmt::Write>(&self, f: &mut fmt::Formatter<W>) -> fmt::Result {
+        write!(f, "{}", self.tenths)
+    }
+}
+
+impl Kind for Setpoint {
+    ghost use Rattle.std.specs.Prelude.{[], ◌∷◌};
+    ghost use Rattle.std.proofs.Common.{rules};
+    ghost use Rattle.values.specs.Setpoints.{setpoint_rules, tenths_of};
+
+    type Row = u16;
+
+    const WIDTH: usize = 2;
+
+    ghost rules = { setpoint_rules };
+
+    ghost meaning = { tenths_of };
+
+    ghost plain = { λ r. r ∷ [] };
+
+    ghost kept = { Prim.search rules };
+
+    ghost falls = { Prim.search rules };
+
+    ghost sized = { Prim.search rules };
+
+    fn byte_width() -> usize {
+        Self::WIDTH
+    }
+
+    fn fallback() -> Setpoint {
+        Setpoint { tenths: 400 }
+    }
+
+    fn row(&self) -> u16 {
+        self.tenths
+    }
+
+    fn checked(row: &u16) -> Option<Setpoint> {
+        let tenths = *row;
+        if (200..=900).contains(&tenths) {
+            Some(Setpoint { tenths })
+        } else {
+            None
+        }
+    }
+
+    fn same(&self, other: &Setpoint) -> bool {
+        self == other
+    }
+
+    fn decode(bytes: &[u8]) -> Option<u16> {
+        let [tenths] = words::<1>(bytes)?;
+        Some(tenths)
+    }
+
+    fn write(&self, out: &mut Buffer) {
+        out.put_numbers(&[self.tenths]);
+    }
 }

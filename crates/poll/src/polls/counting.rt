@@ -1,9 +1,9 @@
-ghost use Rattle.std.specs.Prelude.{◌≡◌, ◌<◌, map, length, IfOk};
+ghost use Rattle.std.specs.Prelude.{◌≡◌, map, length, IfOk};
 ghost use Rattle.std.specs.Result.{result_ok};
 ghost use Rattle.std.specs.Option.{option_to_list};
 ghost use Rattle.values.specs.Rules.{meant};
 ghost use Rattle.values.specs.Setpoints.{tenths_of};
-ghost use Rattle.poll.specs.Polls.{pieces, proposed, cells_of, sized, shown, first_shown, counted, standings_of, told, Polled};
+ghost use Rattle.poll.specs.Polls.{pieces, proposed, cells_of, sized, shown, unseen, counted, standings_of, told, Polled};
 
 use crate::polls::{Fault, Poll, Standing};
 use std::alloc::{AllocError, Global};
@@ -16,11 +16,10 @@ use values::setpoints::Setpoint;
 fn read_proposals(heap: Global, input: &[u8]) -> Result<Vec<Result<Setpoint, Refusal>>, AllocError>
     ensures { IfOk result (λ v. map (meant tenths_of) v.items ≡ proposed input.now) }
 {
-    let mut proposals = Vec::new(heap);
-    for bytes in input.chunks(Setpoint::WIDTH) {
-        proposals.push(Setpoint::read(bytes))?;
-    }
-    Ok(proposals)
+    input
+        .chunks(Setpoint::WIDTH)
+        .map(Setpoint::read)
+        .collect(heap)
 }
 
 // How many controllers propose: an odd byte at the end counts as one.
@@ -34,7 +33,7 @@ fn controllers(input: &[u8]) -> usize
 fn check_size(n: usize) -> Result<(), Refusal>
     ensures { result ≡ sized n }
 {
-    if 1 <= n && n <= 16 {
+    if (1..=16).contains(&n) {
         Ok(())
     } else {
         Err(Refusal::BlockSize)
@@ -45,10 +44,7 @@ fn check_size(n: usize) -> Result<(), Refusal>
 fn cell_of(proposal: &Result<Setpoint, Refusal>) -> Cell<u16>
     ensures { shown result ≡ result_ok (meant tenths_of proposal.now) }
 {
-    match proposal {
-        Ok(setpoint) => Cell::Filled(setpoint.row()),
-        Err(_) => Cell::Empty,
-    }
+    proposal.ok().map(|setpoint| setpoint.row())
 }
 
 fn cells_of(
@@ -57,23 +53,16 @@ fn cells_of(
 ) -> Result<Vec<Cell<u16>>, AllocError>
     ensures { IfOk result (λ v. map shown v.items ≡ cells_of (map (meant tenths_of) proposals.now)) }
 {
-    let mut cells = Vec::new(heap);
-    for proposal in proposals {
-        cells.push(cell_of(proposal))?;
-    }
-    Ok(cells)
+    proposals.iter().map(cell_of).collect(heap)
 }
 
-// How the value of the cell at `i` stands, if the cell is filled and no cell before it holds the same.
-fn standing_at(cells: &[Cell<u16>], i: usize) -> Option<Standing>
-    requires { i < length cells.now }
-    ensures { map told (option_to_list result) ≡ map (counted (map shown cells.now)) (first_shown (map shown cells.now) i) }
+// How the value of a cell stands among all cells, if it is filled and none of the earlier ones holds the same.
+fn first_standing(earlier: &[Cell<u16>], cell: Cell<u16>, cells: &[Cell<u16>]) -> Option<Standing>
+    ensures { map told (option_to_list result) ≡ map (counted (map shown cells.now)) (unseen (map shown earlier.now) (shown cell)) }
 {
-    let Cell::Filled(row) = cells[i] else {
-        return None;
-    };
-    let (earlier, _) = tally::<Setpoint>(&cells[0..i], &row);
-    if earlier > 0 {
+    let row = cell?;
+    let (before, _) = tally::<Setpoint>(earlier, &row);
+    if before > 0 {
         return None;
     }
     let (holding, otherwise) = tally::<Setpoint>(cells, &row);
@@ -87,9 +76,10 @@ fn standing_at(cells: &[Cell<u16>], i: usize) -> Option<Standing>
 fn standings(heap: Global, cells: &[Cell<u16>]) -> Result<Vec<Standing>, AllocError>
     ensures { IfOk result (λ v. map told v.items ≡ standings_of (map shown cells.now)) }
 {
+    // A loop: std's lemma on `filter_map` asks which standing came, and clauses know only what it tells.
     let mut found = Vec::new(heap);
-    for i in 0..cells.len() {
-        if let Some(standing) = standing_at(cells, i) {
+    for (i, cell) in cells.iter().enumerate() {
+        if let Some(standing) = first_standing(&cells[..i], *cell, cells) {
             found.push(standing)?;
         }
     }

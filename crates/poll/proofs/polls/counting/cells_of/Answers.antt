@@ -1,14 +1,16 @@
-use Rattle.std.proofs.Common.{map, vec_items, ap, ◌∙◌, take_all}
+use Rattle.std.proofs.Common.{rules, sym, ◌∙◌}
+use Rattle.std.specs.Result.{result_ok}
+use Rattle.std.proofs.lemmas.Iterator.{YieldsList-from_slice, YieldsList-from_map_by}
+use Rattle.std.proofs.lemmas.Iterator.Consumers.{map_from_collect}
+use Rattle.std.proofs.lemmas.Result.{IfOk-weaker}
+use Rattle.std.proofs.lemmas.Simd.{map-map}
 use Rattle.values.specs.Rules.{meant}
 use Rattle.values.specs.Setpoints.{tenths_of}
-use Rattle.poll.specs.Polls.{shown, cells_of}
-use Rattle.poll.proofs.Steps.{cells_more}
+use Rattle.poll.specs.Polls.{shown}
 use Rattle.poll.proofs.polls.counting.cells_of.Goals as goal
 
-pub loop-proposal-preserved : goal.loop-proposal-preserved
-loop-proposal-preserved c =
-    cells_more shown (vec_items c.loop-proposal.cells) (vec_items c.push.new.self) c.cell_of.result c.args.proposals.now c.loop-proposal.proposal-index c.proposal-item.result
-    c.loop-proposal-test.true c.proposal-item.is c.in_ok-push.ensures.items c.cell_of.ensures c.loop-proposal.invariant
-
 pub returns : goal.returns
-returns c = c.loop-proposal.invariant ∙ ap (λ ps. cells_of (map (meant tenths_of) ps)) (take_all c.loop-proposal.proposal-index c.args.proposals.now c.loop-proposal-test.false)
+returns c =
+    let ps = c.args.proposals.now in
+    let seen = map_from_collect c.collect.result c.collect.ensures.ran (YieldsList-from_map_by _ shown (λ p. result_ok (meant tenths_of p)) (YieldsList-from_slice ps cc) c.map.ensures.closure (λ x r q k. search rules)) in
+    IfOk-weaker c.collect.result _ _ (λ v e. e ∙ sym (map-map result_ok (meant tenths_of) ps)) seen

@@ -1,4 +1,4 @@
-use Rattle.std.proofs.Common.{◌≡◌, map, vec_items, sym, ap, ◌∙◌, subst}
+use Rattle.std.proofs.Common.{◌≡◌, map, sym, ap, ◌∙◌, subst}
 use Rattle.values.specs.Rules.{meant}
 use Rattle.values.specs.Setpoints.{tenths_of}
 use Rattle.poll.specs.Polls.{proposed, cells_of, sized, shown, standings_of, told, Once}
@@ -9,8 +9,8 @@ pub returns : goal.returns
 returns c =
     let all = cells_of (proposed c.args.input.now) in
     let read = c.in_ok-proposals.ensures in
-    let cells : map shown (vec_items c.in_ok-cells.cells) ≡ all = c.in_ok-cells.ensures ∙ ap (λ ps. cells_of (map (meant tenths_of) ps)) c.deref.ensures.value ∙ ap cells_of read in
-    let stand : map told (vec_items c.in_ok-standings.standings) ≡ standings_of all = c.in_ok-standings.ensures ∙ ap (λ cs. standings_of (map shown cs)) c.deref-2.ensures.value ∙ ap standings_of cells in
+    let cells : map shown c.in_ok-cells.cells.items ≡ all = c.in_ok-cells.ensures ∙ ap (λ ps. cells_of (map (meant tenths_of) ps)) c.deref.ensures.value ∙ ap cells_of read in
+    let stand : map told c.in_ok-standings.standings.items ≡ standings_of all = c.in_ok-standings.ensures ∙ ap (λ cs. standings_of (map shown cs)) c.deref-2.ensures.value ∙ ap standings_of cells in
     record {
       size = ap sized (sym c.controllers.ensures) ∙ sym c.check_size.ensures ∙ c.in_ok-check_size.was;
       proposals = read;
