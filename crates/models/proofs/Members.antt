@@ -1,17 +1,9 @@
 -- A set's bits and their number.
-use Rattle.std.proofs.Common.{◌≡◌, ℕ, zero, suc, ◌+◌, ◌*◌, ◌/◌, ◌%◌, ◌^◌, ◌<◌, ◌≤◌, false, eqb, sym, refl, ap, ◌∙◌, ap₂, mod-lt, mod-eq_of_lt, one-add, arith, lit<, pow_pos, pow_mono}
-use native.Mathlib.Nat.{div-eq_of_lt}
+use Rattle.std.proofs.Common.{◌≡◌, ℕ, zero, suc, ◌+◌, ◌*◌, ◌/◌, ◌%◌, ◌^◌, ◌<◌, eqb, sym, refl, ap, ◌∙◌, ap₂, mod-lt, mod-eq_of_lt, one-add, arith, lit<, pow_pos}
 use lib.Count.{ones, ones_cat, ones-le}
 use lib.Pow.{mod-pow-add}
 use Rattle.values.specs.Counting.{tick, count}
 use Rattle.models.specs.Sets.{has, members}
-
--- a number of 16 or more is in no set
-pub beyond : (x i : ℕ) → x < 2 ^ 16 → 16 ≤ i → has x i ≡ false
-beyond x i h k =
-    let p : 2 ^ 16 ≤ 2 ^ i = pow_mono k in
-    let lt : x < 2 ^ i = omega arith in
-    ap (λ (y : ℕ). eqb (y % 2) 1) (div-eq_of_lt lt)
 
 digit : (d : ℕ) → d < 2 → ones d ≡ tick (eqb d 1)
 unfolding ones

@@ -1,9 +1,12 @@
 -- The five models, one row of a table for each. Assumes nothing.
-use Rattle.std.specs.Prelude.{◌≡◌, ℕ, ◌*◌, min, Bool, true, cond, List, [], ◌∷◌, Some, None, Option, MatchOption, ◌==◌, ◌≢◌}
+use Rattle.std.specs.Prelude.{◌≡◌, ℕ, ◌*◌, min, Bool, true, if◌then◌else◌, List, [], ◌∷◌, Some, None, Option, Result, MatchOption, ◌==◌, ◌≢◌}
+use Rattle.std.specs.Option.{ok_or}
+use Rattle.std.specs.Result.{result_ok}
 use Rattle.models.specs.declared.classes.Class.{Class}
 use Rattle.models.specs.declared.classes.Class.TheVariants.{Honest, Silent, Uniform, Free}
 use Rattle.models.specs.declared.classes.Counts.{Counts}
 use Rattle.models.specs.declared.standards.Standard.{Standard}
+use Rattle.models.specs.declared.standards.UnknownModel.{UnknownModel}
 use Rattle.models.specs.declared.standards.Standard.TheVariants.{Aware, Unaware, Buffered, Carried, Fixed}
 use Rattle.models.specs.Sets.{has}
 use Rattle.models.specs.Laws.{Meaning}
@@ -46,7 +49,7 @@ code_of s = (entry s).code
 
 -- the class by whether a controller was in the set before and is in the set now; in neither set it is honest
 abbrev pub class_in : Entry → (was is : Bool) → Class
-class_in e was is = cond is (cond was e.in_both e.in_now_only) (cond was e.in_before_only Honest)
+class_in e was is = if is then (if was then e.in_both else e.in_now_only) else (if was then e.in_before_only else Honest)
 
 -- each count is its multiple of t, where a t above 15 is read as 15
 abbrev pub times_t : Counts → ℕ → Counts
@@ -63,7 +66,7 @@ standard s = record {
 -- the first of some models that has a code
 abbrev with_code_among : List Standard → ℕ → Option Standard
 with_code_among [] code = None
-with_code_among (s ∷ rest) code = cond (code_of s == code) (Some s) (with_code_among rest code)
+with_code_among (s ∷ rest) code = if code_of s == code then Some s else with_code_among rest code
 
 -- the model with a code
 abbrev pub with_code : ℕ → Option Standard
@@ -72,3 +75,8 @@ with_code = with_code_among (Aware ∷ Unaware ∷ Buffered ∷ Carried ∷ Fixe
 -- the law of codes: the model has the code; or no model has it
 abbrev pub HasCode : ℕ → Option Standard → Type 0
 HasCode code r = MatchOption r ((s : Standard) → code_of s ≢ code) (λ s. code_of s ≡ code)
+
+-- Reading a code: the model with it, or an error that tells the code.
+pub record Decodes (code : ℕ) (r : Result Standard UnknownModel) : Type 0 where
+  pub value : r ≡ ok_or (with_code code) (record { 0 = code })
+  pub law : HasCode code (result_ok r)

@@ -5,27 +5,28 @@ ghost use Rattle.std.specs.Prelude.{◌≡◌};
 ghost use Rattle.models.specs.Laws.{Meaning, Bounded, Capped, Lawful};
 
 use crate::classes::{Class, Counts};
-use crate::sets::Set;
+use crate::moves::Moved;
 
 pub mod classes;
+pub mod moves;
 pub mod sets;
 pub mod stamps;
 pub mod standards;
 
-/// A model of faults, from the set of seated controllers before a move, the set after it, and the number `t` of faults.
+/// A model of faults, asked about a move of the faults from one set of seated controllers to another.
 ///
-/// It answers every input, always alike, and alters nothing. A `t` above 15 is read as 15.
+/// It answers every input, always alike, and alters nothing. A number of faults above 15 is read as 15.
 pub trait Model {
     // what it answers
     ghost meaning: { Self → Meaning };
 
-    /// Whether faults may move from one set to the other.
-    fn allows(&self, before: Set, after: Set, t: usize) -> bool
-        ensures { result ≡ (meaning self.now).allowed before.0 after.0 t };
+    /// Whether the faults may move from the set before to the set after.
+    fn allows(&self, moved: Moved) -> bool
+        ensures { result ≡ (meaning self.now).allowed moved.before.0 moved.after.0 moved.t };
 
     /// How a controller behaves in the round after the move.
-    fn class(&self, before: Set, after: Set, t: usize, controller: usize) -> Class
-        ensures { result ≡ (meaning self.now).class before.0 after.0 t controller };
+    fn class(&self, moved: Moved, controller: usize) -> Class
+        ensures { result ≡ (meaning self.now).class moved.before.0 moved.after.0 moved.t controller };
 
     /// How many controllers at most may misbehave, and how.
     fn counts(&self, t: usize) -> Counts

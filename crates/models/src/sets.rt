@@ -2,6 +2,7 @@ ghost use Rattle.std.specs.Prelude.{◌≡◌};
 ghost use Rattle.models.specs.Sets.{has, members};
 
 /// A set of controllers: bit i stands for controller i.
+// Sixteen bits and no set of std, which would allocate: a set comes from a file as this number.
 #[derive(Clone, Copy, PartialEq, Eq, Debug)]
 pub struct Set(pub u16);
 

@@ -3,7 +3,7 @@ ghost use Rattle.models.specs.Stamps.{stamped};
 ghost use Rattle.std.proofs.Common.{rules};
 
 use crate::classes::{Class, Counts};
-use crate::sets::Set;
+use crate::moves::Moved;
 use crate::{LawfulModel, Model as FaultModel};
 
 /// A model whose controllers stamp what they send by a trusted counter: what is sent once cannot be told
@@ -18,12 +18,12 @@ impl<M: FaultModel> FaultModel for Stamped<M> {
 
     ghost capped = { Prim.search rules };
 
-    fn allows(&self, before: Set, after: Set, t: usize) -> bool {
-        self.0.allows(before, after, t)
+    fn allows(&self, moved: Moved) -> bool {
+        self.0.allows(moved)
     }
 
-    fn class(&self, before: Set, after: Set, t: usize, controller: usize) -> Class {
-        match self.0.class(before, after, t, controller) {
+    fn class(&self, moved: Moved, controller: usize) -> Class {
+        match self.0.class(moved, controller) {
             Class::Free => Class::Uniform,
             other => other,
         }

@@ -1,10 +1,12 @@
-ghost use Rattle.std.specs.Prelude.{◌≡◌};
-ghost use Rattle.models.specs.Standards.{code_of, with_code, HasCode, standard};
+ghost use Rattle.std.specs.Prelude.{◌≡◌, ◌++◌, Some, decimal, codes};
+ghost use Rattle.models.specs.Standards.{code_of, Decodes, standard};
 ghost use Rattle.std.proofs.Common.{rules};
 
 use crate::classes::{Class, Counts};
-use crate::sets::Set;
+use crate::moves::Moved;
 use crate::{LawfulModel, Model as FaultModel};
+use std::error::Error;
+use std::fmt;
 
 /// The five models of the literature.
 #[derive(Clone, Copy, PartialEq, Eq, Debug)]
@@ -21,7 +23,7 @@ pub enum Standard {
     Fixed = 4,
 }
 
-// How many times t the counts of each model are, by its code.
+// How many times t the counts of each model are, by its code. A constant table, since the rules have it as one.
 const MULTIPLES: [Counts; 5] = [
     Counts { b: 2, e: 1, l: 1 },
     Counts { b: 2, e: 1, l: 2 },
@@ -30,26 +32,44 @@ const MULTIPLES: [Counts; 5] = [
     Counts { b: 1, e: 1, l: 1 },
 ];
 
-impl Standard {
-    /// The number by which files name the model.
-    pub fn code(self) -> u8
-        ensures { result ≡ code_of self }
-    {
-        self as u8
+/// A code that names no model.
+#[derive(Clone, Copy, PartialEq, Eq, Debug)]
+pub struct UnknownModel(pub u8);
+
+impl fmt::Display for UnknownModel {
+    ghost output = { λ unknown. Some (codes "no model has code " ++ decimal unknown.0) };
+
+    fn fmt<W: fmt::Write>(&self, f: &mut fmt::Formatter<W>) -> fmt::Result {
+        write!(f, "no model has code {}", self.0)
     }
+}
+
+impl Error for UnknownModel {}
+
+// By hand: no derive of std makes a `From`, and the gate refuses an impl by a derive of our own.
+impl From<Standard> for u8 {
+    ghost from_gives = { λ model code. code ≡ code_of model };
+
+    /// The number by which files name the model.
+    fn from(model: Standard) -> u8 {
+        model as u8
+    }
+}
+
+impl TryFrom<u8> for Standard {
+    type Error = UnknownModel;
+
+    ghost try_from_gives = { Decodes };
 
     /// The model that a code names; other codes name none.
-    pub fn from_code(code: u8) -> Option<Standard>
-        ensures value { result ≡ with_code code }
-        ensures law { HasCode code result }
-    {
+    fn try_from(code: u8) -> Result<Standard, UnknownModel> {
         match code {
-            0 => Some(Standard::Aware),
-            1 => Some(Standard::Unaware),
-            2 => Some(Standard::Buffered),
-            3 => Some(Standard::Carried),
-            4 => Some(Standard::Fixed),
-            _ => None,
+            0 => Ok(Standard::Aware),
+            1 => Ok(Standard::Unaware),
+            2 => Ok(Standard::Buffered),
+            3 => Ok(Standard::Carried),
+            4 => Ok(Standard::Fixed),
+            _ => Err(UnknownModel(code)),
         }
     }
 }
@@ -61,15 +81,17 @@ impl FaultModel for Standard {
 
     ghost capped = { Prim.search rules };
 
-    fn allows(&self, before: Set, after: Set, t: usize) -> bool {
+    fn allows(&self, moved: Moved) -> bool {
         match self {
-            Standard::Fixed => before.0 == after.0,
+            Standard::Fixed => moved.before == moved.after,
             _ => true,
         }
     }
 
-    fn class(&self, before: Set, after: Set, t: usize, controller: usize) -> Class {
-        match (self, before.holds(controller), after.holds(controller)) {
+    fn class(&self, moved: Moved, controller: usize) -> Class {
+        let was = moved.before.holds(controller);
+        let is = moved.after.holds(controller);
+        match (self, was, is) {
             (_, false, false) => Class::Honest,
             (Standard::Carried, false, true) => Class::Honest,
             (Standard::Aware, true, false) => Class::Silent,

@@ -1,5 +1,5 @@
 -- A model of a stranger: faults stay or leave, and never come.
-use Rattle.std.specs.Prelude.{ℕ, min, Bool, cond, ◌==◌, bit_and}
+use Rattle.std.specs.Prelude.{ℕ, min, Bool, if◌then◌else◌, ◌==◌, bit_and}
 use Rattle.models.specs.declared.classes.Class.{Class}
 use Rattle.models.specs.declared.classes.Class.TheVariants.{Honest, Silent, Free}
 use Rattle.models.specs.Laws.{Meaning}
@@ -10,7 +10,7 @@ abbrev pub within : ℕ → ℕ → Bool
 within before now = bit_and before now == now
 
 abbrev pub left_class : (was is : Bool) → Class
-left_class was is = cond is Free (cond was Silent Honest)
+left_class was is = if is then Free else (if was then Silent else Honest)
 
 abbrev pub leaving : Meaning
 leaving = record {

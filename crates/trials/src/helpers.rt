@@ -1,4 +1,7 @@
 //! What several tests make or read.
+use models::classes::Counts;
+use models::moves::Moved;
+use models::sets::Set;
 use values::cells::Quorum;
 use values::kinds::Kind;
 use values::sheets::Shares;
@@ -10,6 +13,18 @@ pub fn shares(zone0: u16, zone1: u16, zone2: u16, zone3: u16) -> Shares {
         zone2,
         zone3,
     }
+}
+
+pub fn from_to(before: u16, after: u16, t: usize) -> Moved {
+    Moved {
+        before: Set(before),
+        after: Set(after),
+        t,
+    }
+}
+
+pub fn bel(b: usize, e: usize, l: usize) -> Counts {
+    Counts { b, e, l }
 }
 
 pub fn quorum(at_least: usize, otherwise_at_most: usize) -> Quorum {

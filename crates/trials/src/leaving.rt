@@ -4,12 +4,13 @@ ghost use Rattle.trials.specs.Leaving.{leaving};
 ghost use Rattle.std.proofs.Common.{rules};
 
 use models::classes::{Class, Counts};
+use models::moves::Moved;
 use models::sets::Set;
 use models::stamps::Stamped;
 use models::{LawfulModel, Model as FaultModel};
 
 /// A model of faults as a stranger would build one: a fault stays or leaves for good, and who was left keeps silent.
-#[derive(Clone, Copy)]
+#[derive(Clone, Copy, PartialEq, Eq, Debug)]
 pub struct Leaving;
 
 impl FaultModel for Leaving {
@@ -19,14 +20,14 @@ impl FaultModel for Leaving {
 
     ghost capped = { Prim.search rules };
 
-    fn allows(&self, before: Set, after: Set, t: usize) -> bool {
-        before.0 & after.0 == after.0
+    fn allows(&self, moved: Moved) -> bool {
+        moved.before.0 & moved.after.0 == moved.after.0
     }
 
-    fn class(&self, before: Set, after: Set, t: usize, controller: usize) -> Class {
-        if after.holds(controller) {
+    fn class(&self, moved: Moved, controller: usize) -> Class {
+        if moved.after.holds(controller) {
             Class::Free
-        } else if before.holds(controller) {
+        } else if moved.before.holds(controller) {
             Class::Silent
         } else {
             Class::Honest
@@ -49,7 +50,11 @@ pub fn may_stay<M: LawfulModel>(model: &M, set: Set, t: usize) -> bool
     ensures law { Few set.0 t → result ≡ true }
 {
     model.lawful();
-    model.allows(set, set, t)
+    model.allows(Moved {
+        before: set,
+        after: set,
+        t,
+    })
 }
 
 /// The same with stamps on the model, twice.

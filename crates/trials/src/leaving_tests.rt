@@ -1,3 +1,4 @@
+use crate::helpers::from_to;
 use crate::leaving::{Leaving, may_stay, may_stay_stamped};
 use models::Model;
 use models::classes::Class;
@@ -6,12 +7,12 @@ use models::standards::Standard;
 
 #[test]
 fn a_strangers_model_lets_faults_leave_only(rt: HostRuntime) {
-    assert!(rt; Leaving.allows(Set(0b111), Set(0b101), 3));
-    assert!(rt; Leaving.allows(Set(0b111), Set(0), 3));
-    assert!(rt; !Leaving.allows(Set(0b101), Set(0b110), 3));
-    assert_eq!(rt; Leaving.class(Set(0b11), Set(0b01), 2, 0), Class::Free);
-    assert_eq!(rt; Leaving.class(Set(0b11), Set(0b01), 2, 1), Class::Silent);
-    assert_eq!(rt; Leaving.class(Set(0b11), Set(0b01), 2, 2), Class::Honest);
+    assert!(rt; Leaving.allows(from_to(0b111, 0b101, 3)));
+    assert!(rt; Leaving.allows(from_to(0b111, 0, 3)));
+    assert!(rt; !Leaving.allows(from_to(0b101, 0b110, 3)));
+    assert_eq!(rt; Leaving.class(from_to(0b11, 0b01, 2), 0), Class::Free);
+    assert_eq!(rt; Leaving.class(from_to(0b11, 0b01, 2), 1), Class::Silent);
+    assert_eq!(rt; Leaving.class(from_to(0b11, 0b01, 2), 2), Class::Honest);
 }
 
 #[test]

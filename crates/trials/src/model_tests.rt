@@ -1,24 +1,13 @@
+use crate::helpers::{bel, from_to};
 use models::Model;
-use models::classes::{Class, Counts};
-use models::sets::Set;
+use models::classes::Class;
 use models::stamps::Stamped;
-use models::standards::Standard;
+use models::standards::{Standard, UnknownModel};
 
 // The classes of controllers 0 to 3 as the faults move from {0, 1} to {1, 2}: left, stayed, came, in neither set.
 fn classes<M: Model>(model: &M) -> [Class; 4] {
-    let before = Set(0b0011);
-    let after = Set(0b0110);
-    [
-        model.class(before, after, 2, 0),
-        model.class(before, after, 2, 1),
-        model.class(before, after, 2, 2),
-        model.class(before, after, 2, 3),
-    ]
-}
-
-fn counts<M: Model>(model: &M, t: usize) -> (usize, usize, usize) {
-    let Counts { b, e, l } = model.counts(t);
-    (b, e, l)
+    let moved = from_to(0b0011, 0b0110, 2);
+    [0, 1, 2, 3].map(|controller| model.class(moved, controller))
 }
 
 #[test]
@@ -40,12 +29,10 @@ fn classes_are_those_of_the_table(rt: HostRuntime) {
 
 #[test]
 fn a_number_of_16_or_more_is_honest(rt: HostRuntime) {
-    let all = Set(0xffff);
-    assert_eq!(rt; Standard::Buffered.class(all, all, 15, 16), Class::Honest);
-    assert_eq!(rt;
-        Standard::Carried.class(all, all, usize::MAX, usize::MAX),
-        Class::Honest
-    );
+    let all = from_to(0xffff, 0xffff, 15);
+    assert_eq!(rt; Standard::Buffered.class(all, 16), Class::Honest);
+    let most = from_to(0xffff, 0xffff, usize::MAX);
+    assert_eq!(rt; Standard::Carried.class(most, usize::MAX), Class::Honest);
 }
 
 #[test]
@@ -57,22 +44,22 @@ fn only_fixed_forbids_moves(rt: HostRuntime) {
         Standard::Carried,
     ];
     for model in moving {
-        assert!(rt; model.allows(Set(1), Set(2), 1));
-        assert!(rt; model.allows(Set(1), Set(1), 1));
+        assert!(rt; model.allows(from_to(1, 2, 1)));
+        assert!(rt; model.allows(from_to(1, 1, 1)));
     }
-    assert!(rt; Standard::Fixed.allows(Set(4), Set(4), 1));
-    assert!(rt; !Standard::Fixed.allows(Set(4), Set(8), 1));
-    assert!(rt; !Standard::Fixed.allows(Set(4), Set(0), 1));
+    assert!(rt; Standard::Fixed.allows(from_to(4, 4, 1)));
+    assert!(rt; !Standard::Fixed.allows(from_to(4, 8, 1)));
+    assert!(rt; !Standard::Fixed.allows(from_to(4, 0, 1)));
 }
 
 #[test]
 fn counts_are_multiples_of_t_up_to_15(rt: HostRuntime) {
-    assert_eq!(rt; counts(&Standard::Aware, 3), (6, 3, 3));
-    assert_eq!(rt; counts(&Standard::Unaware, 1), (2, 1, 2));
-    assert_eq!(rt; counts(&Standard::Buffered, 15), (30, 30, 30));
-    assert_eq!(rt; counts(&Standard::Carried, 16), (15, 15, 15));
-    assert_eq!(rt; counts(&Standard::Fixed, usize::MAX), (15, 15, 15));
-    assert_eq!(rt; counts(&Standard::Fixed, 0), (0, 0, 0));
+    assert_eq!(rt; Standard::Aware.counts(3), bel(6, 3, 3));
+    assert_eq!(rt; Standard::Unaware.counts(1), bel(2, 1, 2));
+    assert_eq!(rt; Standard::Buffered.counts(15), bel(30, 30, 30));
+    assert_eq!(rt; Standard::Carried.counts(16), bel(15, 15, 15));
+    assert_eq!(rt; Standard::Fixed.counts(usize::MAX), bel(15, 15, 15));
+    assert_eq!(rt; Standard::Fixed.counts(0), bel(0, 0, 0));
 }
 
 #[test]
@@ -91,23 +78,23 @@ fn stamps_make_the_free_uniform(rt: HostRuntime) {
         classes(&Stamped(Stamped(Standard::Buffered))),
         [uniform, uniform, uniform, honest]
     );
-    assert_eq!(rt; counts(&Stamped(Standard::Aware), 1), (2, 0, 1));
-    assert_eq!(rt; counts(&Stamped(Standard::Carried), 1), (1, 0, 1));
+    assert_eq!(rt; Stamped(Standard::Aware).counts(1), bel(2, 0, 1));
+    assert_eq!(rt; Stamped(Standard::Carried).counts(1), bel(1, 0, 1));
     assert_eq!(rt;
-        counts(&Stamped(Stamped(Standard::Buffered)), 99),
-        (30, 0, 30)
+        Stamped(Stamped(Standard::Buffered)).counts(99),
+        bel(30, 0, 30)
     );
-    assert!(rt; !Stamped(Standard::Fixed).allows(Set(4), Set(8), 1));
+    assert!(rt; !Stamped(Standard::Fixed).allows(from_to(4, 8, 1)));
 }
 
 #[test]
 fn codes_are_0_to_4(rt: HostRuntime) {
-    assert_eq!(rt; Standard::from_code(0), Some(Standard::Aware));
-    assert_eq!(rt; Standard::from_code(3), Some(Standard::Carried));
+    assert_eq!(rt; Standard::try_from(0u8), Ok(Standard::Aware));
+    assert_eq!(rt; Standard::try_from(3u8), Ok(Standard::Carried));
     for code in 0..=255u8 {
-        match Standard::from_code(code) {
-            Some(model) => assert_eq!(rt; model.code(), code),
-            None => assert!(rt; code > 4),
+        match Standard::try_from(code) {
+            Ok(model) => assert_eq!(rt; u8::from(model), code),
+            Err(unknown) => assert!(rt; code > 4 && unknown == UnknownModel(code)),
         }
     }
 }

@@ -1,5 +1,8 @@
-use Rattle.std.proofs.Common.{◌≡◌, ℕ, zero, suc, ◌+◌, ◌*◌, ◌/◌, ◌%◌, ◌^◌, ◌<◌, ◌≤◌, Bool, true, false, eqb, sym, refl, ap, ◌∙◌, ap₂, mod-lt, arith, lit<, eq-eqb, eqb-true}
-use lib.Bits.{bit_and, and_shr, and_mod, and_self}
+use Rattle.std.proofs.Common.{◌≡◌, ℕ, ◌+◌, ◌*◌, ◌≤◌, Bool, true, false, sym, refl, ap, ◌∙◌, ap₂, arith, eq-eqb, eqb-true}
+use lib.Bits.{bit_and, and_self}
+use Rattle.std.specs.Int.{bit_at}
+use Rattle.std.proofs.lemmas.Bool.Decides.{nat_tests}
+use Rattle.std.proofs.lemmas.Nat.Bits.{bit_at_and, bit_at-lt}
 use Rattle.values.specs.Counting.{tick}
 use Rattle.models.specs.declared.classes.Class.{Class}
 use Rattle.models.specs.declared.classes.Class.TheVariants.{Honest}
@@ -9,22 +12,13 @@ use Rattle.models.proofs.Bounds.{at_most}
 use Rattle.trials.specs.Leaving.{within, left_class}
 use Rattle.trials.proofs.leaving.LeavingLawfulModel.lawful.Goals as goal
 
-digits : (d e : ℕ) → d < 2 → e < 2 → bit_and d e ≡ e → tick (eqb e 1) ≤ tick (eqb d 1)
-digits zero zero p q h = omega arith
-digits zero (suc zero) p q h = omega arith
-digits zero (suc (suc e)) p q h = omega arith
-digits (suc zero) zero p q h = omega arith
-digits (suc zero) (suc zero) p q h = omega arith
-digits (suc zero) (suc (suc e)) p q h = omega arith
-digits (suc (suc d)) e p q h = omega arith
-
 -- whoever is in the set now was in it before
 was_there : (before now i : ℕ) → within before now ≡ true → tick (has now i) ≤ tick (has before i)
 was_there before now i h =
-    let e = eqb-true (bit_and before now) now h in
-    let bit = λ (x : ℕ). x / 2 ^ i % 2 in
-    let b : bit_and (bit before) (bit now) ≡ bit now = sym (and_mod (before / 2 ^ i) (now / 2 ^ i) 1) ∙ ap (λ (x : ℕ). x % 2) (sym (and_shr before now i)) ∙ ap bit e in
-    digits (bit before) (bit now) (mod-lt (before / 2 ^ i) (lit< tt)) (mod-lt (now / 2 ^ i) (lit< tt)) b
+    let b = ap (λ x. bit_at x i) (sym (eqb-true (bit_and before now) now h)) ∙ bit_at_and before now i in
+    let was = bit_at-lt before i in
+    let is = bit_at-lt now i in
+    grind (arith, nat_tests)
 
 was : (is : Bool) → left_class true is ≡ Honest → ⊥
 was is e = grind arith
