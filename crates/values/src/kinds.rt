@@ -10,8 +10,8 @@ use crate::refusals::Refusal;
 ///
 /// Whoever builds a kind owes each clause and law below; code over any kind rests on them alone.
 /// No method alters a value, and only `read` refuses.
-// What has no body here names a kind's own fields or rule. `row` and `checked` are no `From` and `TryFrom`: the laws of a
-// kind would then have to tie the members of three traits.
+// What has no body here names a kind's own fields or rule, or says why it has none. `row` and `checked` are no `From` and
+// `TryFrom`: the laws of a kind would then have to tie the members of three traits.
 pub trait Kind: Sized + Drop {
     /// A value as it lies in a cell: plain numbers, under no rule.
     type Row: Copy;
