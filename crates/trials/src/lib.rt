@@ -4,6 +4,8 @@
 #[cfg(test)]
 mod cell_tests;
 #[cfg(test)]
+mod display_tests;
+#[cfg(test)]
 mod helpers;
 pub mod leaving;
 #[cfg(test)]
