@@ -13,6 +13,8 @@ mod leaving_tests;
 #[cfg(test)]
 mod model_tests;
 #[cfg(test)]
+mod refusal_tests;
+#[cfg(test)]
 mod set_tests;
 #[cfg(test)]
 mod setpoint_tests;

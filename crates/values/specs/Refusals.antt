@@ -1,8 +1,33 @@
 -- The number by which people know each refusal.
 use Rattle.std.specs.Prelude.{ℕ}
 use Rattle.values.specs.declared.refusals.Refusal.{Refusal}
-use Rattle.values.specs.declared.refusals.Refusal.TheVariants.{BlockSize, Value}
+use Rattle.values.specs.declared.refusals.Refusal.TheVariants.{
+  BlockSize,
+  FaultCount,
+  Resilience,
+  StoreSize,
+  ProposalCount,
+  SetMembers,
+  ForbiddenMove,
+  OutOfTurn,
+  NoSuchPlace,
+  NotForgeable,
+  RoundLimit,
+  WasSeated,
+  Value,
+}
 
 abbrev pub number_of : Refusal → ℕ
 number_of BlockSize = 1
+number_of FaultCount = 2
+number_of Resilience = 3
+number_of StoreSize = 4
+number_of ProposalCount = 5
+number_of SetMembers = 6
+number_of ForbiddenMove = 7
+number_of OutOfTurn = 8
+number_of NoSuchPlace = 9
+number_of NotForgeable = 10
+number_of RoundLimit = 11
+number_of WasSeated = 12
 number_of Value = 24

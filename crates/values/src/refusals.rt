@@ -9,6 +9,28 @@ use std::fmt;
 pub enum Refusal {
     /// A block has no controller, or more than 16.
     BlockSize = 1,
+    /// t is not below n.
+    FaultCount = 2,
+    /// n is not above b + e + l.
+    Resilience = 3,
+    /// The store has fewer cells than the block needs.
+    StoreSize = 4,
+    /// There are not n proposals.
+    ProposalCount = 5,
+    /// A set has a member not below n, or more than t members.
+    SetMembers = 6,
+    /// The model does not allow the move.
+    ForbiddenMove = 7,
+    /// The run does not stand at the turn that the call is for.
+    OutOfTurn = 8,
+    /// A controller is not below n, or the message has no such column.
+    NoSuchPlace = 9,
+    /// The sender is honest or silent, or is uniform and the receiver is not 0.
+    NotForgeable = 10,
+    /// 1,000 rounds are closed.
+    RoundLimit = 11,
+    /// The controller was seated in the last closed round, or is in the initial set and none is closed.
+    WasSeated = 12,
     /// A value is out of range, or its bytes are not as many as its width.
     Value = 24,
 }
