@@ -20,6 +20,8 @@ mod set_tests;
 mod setpoint_tests;
 #[cfg(test)]
 mod sheet_tests;
+#[cfg(test)]
+mod stage_tests;
 pub mod unlawful;
 #[cfg(test)]
 mod window_tests;

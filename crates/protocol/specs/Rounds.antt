@@ -1,5 +1,5 @@
 -- What a controller hears in a round, and what it makes of it. A cell is empty (None) or holds the numbers of a value. Assumes nothing.
-use Rattle.std.specs.Prelude.{ℕ, zero, suc, ◌+◌, ◌-◌, ◌*◌, ◌/◌, Bool, cond, not, ◌&&◌, List, Some, None, Option, ◌==◌, nat_lt}
+use Rattle.std.specs.Prelude.{ℕ, zero, suc, ◌+◌, ◌-◌, ◌*◌, ◌/◌, Bool, if◌then◌else◌, not, ◌&&◌, List, Some, None, Option, ◌==◌, nat_lt}
 use Rattle.std.specs.Option.{unwrap_or}
 use Rattle.values.specs.Cells.{Held, winning}
 use Rattle.models.specs.declared.classes.Class.{Class}
@@ -32,10 +32,10 @@ single cell (suc k) = None
 
 -- what an honest sender sends, by column: v in proposing and collecting, its row in deciding, its decision in maintaining
 abbrev pub sends : Stage → Memory → ℕ → Held
-sends Proposing x = single x.v
-sends Collecting x = single x.v
-sends Deciding x = x.row
-sends Maintaining x = single x.decision
+sends Proposing own = single own.v
+sends Collecting own = single own.v
+sends Deciding own = own.row
+sends Maintaining own = single own.decision
 
 -- what a sender of a class tells: what it sends if it is honest, nothing if it is silent, the cell forged for receiver 0 if it is
 -- uniform, and the cell forged for this receiver if it is free
@@ -64,40 +64,40 @@ held_by least cells n = chosen least n cells n
 
 -- proposing: the value held by at least n - b cells while at most l are filled otherwise, or none
 abbrev pub proposed : ℕ → Counts → (ℕ → Held) → Held
-proposed n most cells = chosen (n - most.b) most.l cells n
+proposed n counts cells = chosen (n - counts.b) counts.l cells n
 
 -- maintaining: the value held by at least n - b cells, or none
 abbrev pub maintained : ℕ → Counts → (ℕ → Held) → Held
-maintained n most cells = held_by (n - most.b) cells n
+maintained n counts cells = held_by (n - counts.b) cells n
 
 -- deciding: the candidate of column k is the value held by more than l senders there, or none
 abbrev pub candidate : ℕ → Counts → (ℕ → ℕ → Held) → ℕ → Held
-candidate n most heard k = held_by (suc most.l) (λ j. heard j k) n
+candidate n counts heard k = held_by (suc counts.l) (λ j. heard j k) n
 
 -- the value of more than l + e candidates; failing that, of more than l cells in the coordinator's row; failing that, the fallback
 abbrev pub settled : ℕ → Counts → (fallback : List ℕ) (candidates coordinator_row : ℕ → Held) → List ℕ
-settled n most fallback candidates coordinator_row =
-    unwrap_or (held_by (suc (most.l + most.e)) candidates n) (unwrap_or (held_by (suc most.l) coordinator_row n) fallback)
+settled n counts fallback candidates coordinator_row =
+    unwrap_or (held_by (suc (counts.l + counts.e)) candidates n) (unwrap_or (held_by (suc counts.l) coordinator_row n) fallback)
 
 abbrev pub decided : Terms → (phase : ℕ) → (ℕ → ℕ → Held) → List ℕ
-decided x phase heard = settled x.n x.counts x.fallback (candidate x.n x.counts heard) (heard (coordinator_of phase))
+decided terms phase heard = settled terms.n terms.counts terms.fallback (candidate terms.n terms.counts heard) (heard (coordinator_of phase))
 
 -- the close of round 3n - 1 copies v into the decision, and every earlier close leaves the decision empty
 abbrev pub copied : (n r : ℕ) → Held → Held
-copied n r v = cond (suc r == 3 * n) v None
+copied n r v = if suc r == 3 * n then v else None
 
 -- what round r leaves an unseated controller with, from what it kept and what it heard
 unfoldable pub make : Stage → Terms → (r : ℕ) → Memory → (ℕ → ℕ → Held) → Memory
-make Proposing x r own heard = record { v = proposed x.n x.counts (λ j. heard j 0); row = own.row; decision = None }
-make Collecting x r own heard = record { v = own.v; row = λ j. heard j 0; decision = None }
-make Deciding x r own heard = let v = Some (decided x (r / 3) heard) in record { v = v; row = own.row; decision = copied x.n r v }
-make Maintaining x r own heard = record { v = own.v; row = own.row; decision = maintained x.n x.counts (λ j. heard j 0) }
+make Proposing terms r own heard = record { v = proposed terms.n terms.counts (λ j. heard j 0); row = own.row; decision = None }
+make Collecting terms r own heard = record { v = own.v; row = λ j. heard j 0; decision = None }
+make Deciding terms r own heard = let v = Some (decided terms (r / 3) heard) in record { v = v; row = own.row; decision = copied terms.n r v }
+make Maintaining terms r own heard = record { v = own.v; row = own.row; decision = maintained terms.n terms.counts (λ j. heard j 0) }
 
 -- what was sent in a round, by sender and column, if all were honest
 abbrev pub sent_in : Terms → (r : ℕ) → (ℕ → Memory) → ℕ → ℕ → Held
-sent_in x r kept j = sends (stage_of x.n r) (kept j)
+sent_in terms r kept j = sends (stage_of terms.n r) (kept j)
 
 -- the close of round r: every unseated controller computes from what was sent, and a seated one is left with all its cells empty
 abbrev pub closing : Terms → (r : ℕ) (seated : ℕ → Bool) (class : ℕ → Class) (forged : ℕ → ℕ → ℕ → Held) → (ℕ → Memory) → ℕ → Memory
-closing x r seated class forged kept i =
-    cond (nat_lt i x.n && not (seated i)) (make (stage_of x.n r) x r (kept i) (heard class (sent_in x r kept) forged i)) blank
+closing terms r seated class forged kept i =
+    if nat_lt i terms.n && not (seated i) then make (stage_of terms.n r) terms r (kept i) (heard class (sent_in terms r kept) forged i) else blank

@@ -1,4 +1,4 @@
-ghost use Rattle.std.specs.Prelude.{◌≡◌, ◌/◌};
+ghost use Rattle.std.specs.Prelude.{◌≡◌};
 ghost use Rattle.protocol.specs.Stages.{stage_of, columns_of, coordinator_of};
 
 /// What the controllers of a block do in a round.
@@ -19,6 +19,7 @@ impl Stage {
     pub fn of(n: usize, round: usize) -> Stage
         ensures { result ≡ stage_of n round }
     {
+        // that is 3 * n <= round, but 3 * n may be too large for a usize
         if round / 3 >= n {
             return Stage::Maintaining;
         }
@@ -40,9 +41,9 @@ impl Stage {
     }
 }
 
-/// The number of the controller whose row counts where a deciding round has too few candidates.
-pub fn coordinator(round: usize) -> usize
-    ensures { result ≡ coordinator_of (round / 3) }
+/// The number of the controller that coordinates a phase: its row counts where a deciding round has too few candidates.
+pub fn coordinator(phase: usize) -> usize
+    ensures { result ≡ coordinator_of phase }
 {
-    round / 3
+    phase
 }

@@ -1,5 +1,5 @@
 -- What a round is for, by its number. Assumes nothing.
-use Rattle.std.specs.Prelude.{ℕ, zero, suc, ◌*◌, ◌%◌, cond, nat_lt}
+use Rattle.std.specs.Prelude.{ℕ, zero, suc, ◌*◌, ◌%◌, if◌then◌else◌, nat_lt}
 use Rattle.protocol.specs.declared.stages.Stage.{Stage}
 use Rattle.protocol.specs.declared.stages.Stage.TheVariants.{Proposing, Collecting, Deciding, Maintaining}
 
@@ -11,7 +11,7 @@ in_phase (suc (suc k)) = Deciding
 
 -- the stage of round r: n phases of three rounds, r / 3 being the phase, and maintaining rounds after them
 unfoldable pub stage_of : (n r : ℕ) → Stage
-stage_of n r = cond (nat_lt r (3 * n)) (in_phase (r % 3)) Maintaining
+stage_of n r = if nat_lt r (3 * n) then in_phase (r % 3) else Maintaining
 
 -- a message has n columns in a deciding round, and otherwise column 0 alone
 abbrev pub columns_of : Stage → ℕ → ℕ

@@ -1,5 +1,29 @@
 -- The run as a machine over plain values: turns, calls, refusals in their order, the state after a call and its answer. Assumes nothing.
-use Rattle.std.specs.Prelude.{ℕ, zero, suc, ◌+◌, ◌*◌, ◌/◌, ◌^◌, Bool, true, false, cond, not, ◌&&◌, ◌||◌, ltb, leb, List, map, length, Some, None, Option, ◌==◌, nat_le, nat_lt, slice_index_or}
+use Rattle.std.specs.Prelude.{
+  ℕ,
+  suc,
+  ◌+◌,
+  ◌*◌,
+  ◌/◌,
+  ◌^◌,
+  Bool,
+  true,
+  false,
+  if◌then◌else◌,
+  not,
+  ◌&&◌,
+  ◌||◌,
+  List,
+  map,
+  length,
+  Some,
+  None,
+  Option,
+  ◌==◌,
+  nat_le,
+  nat_lt,
+  slice_index_or,
+}
 use Rattle.std.specs.Option.{option_or}
 use Rattle.values.specs.declared.refusals.Refusal.{Refusal}
 use Rattle.values.specs.declared.refusals.Refusal.TheVariants.{
@@ -72,7 +96,7 @@ pub data Answer : Type 0 where
 
 -- the refusal that a test gives, and the first of two
 abbrev pub ◌when◌ : Refusal → Bool → Option Refusal
-why when test = cond test (Some why) None
+why when test = if test then Some why else None
 
 abbrev pub ◌then◌ : Option Refusal → Option Refusal → Option Refusal
 a then b = option_or a b
@@ -96,26 +120,26 @@ unforgeable Free receiver = false
 abbrev pub open_refusal : Setting → Meaning → (n t : ℕ) → List (List ℕ) → (initial : ℕ) → Option Refusal
 open_refusal x m n t proposals initial =
     BlockSize when (n == 0 || nat_lt 16 n)
-    then FaultCount when leb n t
-    then Resilience when leb n ((m.counts t).b + (m.counts t).e + (m.counts t).l)
-    then StoreSize when ltb x.cells (needed n)
+    then FaultCount when nat_le n t
+    then Resilience when nat_le n ((m.counts t).b + (m.counts t).e + (m.counts t).l)
+    then StoreSize when nat_lt x.cells (needed n)
     then ProposalCount when not (length proposals == n)
     then SetMembers when misfits n t initial
 
 abbrev pub seat_refusal : Meaning → Block → (set : ℕ) → Option Refusal
 seat_refusal m b set =
-    RoundLimit when leb 1000 b.round
+    RoundLimit when nat_le 1000 b.round
     then SetMembers when misfits b.n b.t set
     then ForbiddenMove when not (m.allowed b.last set b.t)
 
 abbrev pub forge_refusal : Block → Seating → (sender receiver column : ℕ) → Option Refusal
-forge_refusal b x sender receiver column =
+forge_refusal b s sender receiver column =
     NoSuchPlace when (nat_le b.n sender || nat_le b.n receiver || nat_le (columns_of (stage_of b.n b.round) b.n) column)
-    then NotForgeable when unforgeable (x.class sender) receiver
+    then NotForgeable when unforgeable (s.class sender) receiver
 
 abbrev pub decision_refusal : Block → (controller : ℕ) → Option Refusal
 decision_refusal b controller =
-    NoSuchPlace when leb b.n controller
+    NoSuchPlace when nat_le b.n controller
     then WasSeated when has b.last controller
 
 -- the state after each accepted call
@@ -128,23 +152,23 @@ opened m n t proposals initial = record {
   counts = m.counts t;
   round = 0;
   last = initial;
-  memory = λ i. record { v = cond (has initial i) None (slice_index_or (map Some proposals) i None); row = λ _. None; decision = None };
+  memory = λ i. record { v = if has initial i then None else slice_index_or (map Some proposals) i None; row = λ _. None; decision = None };
 }
 
 -- the classes are fixed, by the model named at seat, and nothing is forged yet
 abbrev pub seating : Meaning → Block → (set : ℕ) → Seating
 seating m b set = record {
   set = set;
-  class = λ i. cond (nat_lt i b.n) (m.class b.last set b.t i) Honest;
+  class = λ i. if nat_lt i b.n then m.class b.last set b.t i else Honest;
   forged = λ _ _ _. None;
 }
 
 -- a later cell at the same place replaces an earlier one
 abbrev pub forging : Seating → (sender receiver column : ℕ) → Held → Seating
-forging x sender receiver column cell = record {
-  set = x.set;
-  class = x.class;
-  forged = λ j i k. cond (j == sender && i == receiver && k == column) cell (x.forged j i k);
+forging s sender receiver column cell = record {
+  set = s.set;
+  class = s.class;
+  forged = λ j i k. if j == sender && i == receiver && k == column then cell else s.forged j i k;
 }
 
 abbrev pub terms_of : Setting → Block → Terms
