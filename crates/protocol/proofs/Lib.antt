@@ -5,3 +5,6 @@ mod Phase
 mod Course
 mod Comparing
 mod Published
+mod Accepted
+mod Calls
+mod Agreeing

@@ -4,3 +4,4 @@ pub mod Publications
 pub mod Machine
 pub mod MachineLaws
 pub mod Compared
+pub mod Transcripts

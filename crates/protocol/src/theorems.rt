@@ -12,6 +12,7 @@ ghost use Rattle.protocol.specs.Compared.{
   SendsInAlgorithm3,
 };
 ghost use Rattle.protocol.specs.MachineLaws.{RefusedChangesNothing, SeatedAreEmptied};
+ghost use Rattle.protocol.specs.Transcripts.{Agreement};
 
 /// Under the counts of unaware the rounds are those of Algorithm 1 of IS-RR-2014-004. Whoever was seated in the round
 /// before and is not now is cured and not aware of it.
@@ -41,4 +42,9 @@ pub fn stamped_carried_runs_algorithm_3()
 pub fn the_machine_obeys_its_laws()
     ensures refused { RefusedChangesNothing }
     ensures seated { SeatedAreEmptied }
+{}
+
+/// Under every lawful model, whatever is called, all decisions agree.
+pub fn decisions_agree()
+    ensures { Agreement }
 {}

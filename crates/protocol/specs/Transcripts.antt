@@ -1,0 +1,153 @@
+-- Lists of calls with their answers, and the law that they obey. It speaks of calls and answers only. Assumes nothing.
+use Rattle.std.specs.Prelude.{
+  ◌≡◌,
+  ℕ,
+  zero,
+  suc,
+  ◌+◌,
+  ◌*◌,
+  ◌<◌,
+  ◌≤◌,
+  Bool,
+  true,
+  false,
+  if◌then◌else◌,
+  List,
+  [],
+  ◌∷◌,
+  ◌++◌,
+  map,
+  length,
+  take,
+  Some,
+  None,
+  Option,
+  slice_index,
+  slice_index_or,
+}
+use Rattle.std.specs.Option.{option_or}
+use Rattle.values.specs.Cells.{Held}
+use Rattle.models.specs.declared.classes.Class.TheVariants.{Honest}
+use Rattle.models.specs.Sets.{has}
+use Rattle.models.specs.Laws.{Meaning, Lawful}
+use Rattle.protocol.specs.Machine.{Setting, State, Idle, Call, Open, Seat, Forge, Close, Decision, Answer, Done, Decided, Refused, step}
+
+-- a call with its answer
+pub record Entry : Type 0 where
+  pub call : Call
+  pub answer : Answer
+
+abbrev pub Transcript : Type 0
+Transcript = List Entry
+
+-- a call is accepted if it is not refused
+abbrev pub accepted : Answer → Bool
+accepted Done = true
+accepted (Decided cell) = true
+accepted (Refused why) = false
+
+-- what an open took
+pub record Opening : Type 0 where
+  pub n : ℕ
+  pub t : ℕ
+  pub proposals : List (List ℕ)
+  pub initial : ℕ
+
+-- what one accepted call adds: an opening, a set, a close, or the cell that a decision answered
+abbrev pub opening_in : Call → Option Opening
+opening_in (Open n t proposals initial) = Some (record { n = n; t = t; proposals = proposals; initial = initial })
+opening_in (Seat set) = None
+opening_in (Forge j i k cell) = None
+opening_in Close = None
+opening_in (Decision i) = None
+
+abbrev pub sets_in : Call → List ℕ
+sets_in (Open n t proposals initial) = []
+sets_in (Seat set) = set ∷ []
+sets_in (Forge j i k cell) = []
+sets_in Close = []
+sets_in (Decision i) = []
+
+abbrev pub closes_in : Call → ℕ
+closes_in (Open n t proposals initial) = 0
+closes_in (Seat set) = 0
+closes_in (Forge j i k cell) = 0
+closes_in Close = 1
+closes_in (Decision i) = 0
+
+abbrev pub cell_in : Answer → Option Held
+cell_in Done = None
+cell_in (Decided cell) = Some cell
+cell_in (Refused why) = None
+
+-- the accepted open
+abbrev pub opening : Transcript → Option Opening
+opening [] = None
+opening (e ∷ rest) = option_or (if accepted e.answer then opening_in e.call else None) (opening rest)
+
+-- the sets of the accepted seats, those of rounds 0, 1, 2 and so on
+abbrev pub sets : Transcript → List ℕ
+sets [] = []
+sets (e ∷ rest) = (if accepted e.answer then sets_in e.call else []) ++ sets rest
+
+-- how many rounds were closed
+abbrev pub closes : Transcript → ℕ
+closes [] = 0
+closes (e ∷ rest) = (if accepted e.answer then closes_in e.call else 0) + closes rest
+
+-- the cell that call number i answered, if it was an accepted decision
+abbrev pub answered : Transcript → ℕ → Option Held
+answered [] i = None
+answered (e ∷ rest) zero = cell_in e.answer
+answered (e ∷ rest) (suc i) = answered rest i
+
+-- the set of round r; nobody is in the set of a round never reached
+abbrev pub set_of : Transcript → ℕ → ℕ
+set_of log r = slice_index (sets log) r
+
+abbrev pub Unseated : Transcript → (r i : ℕ) → Type 0
+Unseated log r i = has (set_of log r) i ≡ false
+
+-- controller c is unseated in rounds 3c + 1 and 3c + 2
+pub record Clean (log : Transcript) (o : Opening) (c : ℕ) : Type 0 where
+  pub controller : c < o.n
+  pub collecting : Unseated log (3 * c + 1) c
+  pub deciding : Unseated log (3 * c + 2) c
+
+-- round 0 was reached, and the model calls controller i honest in it
+pub record HonestAtStart (m : Meaning) (log : Transcript) (o : Opening) (i : ℕ) : Type 0 where
+  pub reached : 0 < length (sets log)
+  pub honest : m.class o.initial (set_of log 0) o.t i ≡ Honest
+
+abbrev pub Proposed : Opening → (i : ℕ) → List ℕ → Type 0
+Proposed o i w = slice_index_or (map Some o.proposals) i None ≡ Some w
+
+abbrev pub Filled : Held → Type 0
+Filled cell = (x : List ℕ) × (cell ≡ Some x)
+
+-- the law of a transcript with this opening
+pub record Agrees (m : Meaning) (log : Transcript) (o : Opening) : Type 0 where
+  -- with a clean coordinator all filled decisions are equal, whichever controllers were asked and whenever
+  pub equal : (c : ℕ) → Clean log o c → (i j : ℕ) (x y : List ℕ) → answered log i ≡ Some (Some x) → answered log j ≡ Some (Some y) → x ≡ y
+  -- with one, every decision answered after the close of round 3n - 1 is filled
+  pub filled : (c : ℕ) → Clean log o c → (i : ℕ) (cell : Held) → answered log i ≡ Some cell → 3 * o.n ≤ closes (take i log) → Filled cell
+  -- if all controllers that the model calls honest in round 0 proposed w, every filled decision is w; this needs no clean coordinator
+  pub valid : (w : List ℕ) → ((i : ℕ) → i < o.n → HonestAtStart m log o i → Proposed o i w) → (i : ℕ) (x : List ℕ) → answered log i ≡ Some (Some x) → x ≡ w
+
+pub record Law (m : Meaning) (log : Transcript) : Type 0 where
+  pub opened : (o : Opening) → opening log ≡ Some o → Agrees m log o
+  -- where no open was accepted, no decision was
+  pub unopened : opening log ≡ None → (i : ℕ) → answered log i ≡ None
+
+-- the machine's answers to a list of calls that name one model, and the state that they leave
+abbrev pub transcript : Setting → Meaning → State → List Call → Transcript
+transcript x m s [] = []
+transcript x m s (c ∷ calls) = record { call = c; answer = (step x m s c).1 } ∷ transcript x m (step x m s c).0 calls
+
+abbrev pub after : Setting → Meaning → State → List Call → State
+after x m s [] = s
+after x m s (c ∷ calls) = after x m (step x m s c).0 calls
+
+-- the theorem: whatever is called, what the machine answers obeys the law, under every lawful model
+abbrev pub Agreement : Type 0
+Agreement = (x : Setting) (m : Meaning) → Lawful m → (calls : List Call) → Law m (transcript x m Idle calls)
