@@ -8,3 +8,4 @@ mod Published
 mod Accepted
 mod Calls
 mod Agreeing
+mod Working

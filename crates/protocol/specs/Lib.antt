@@ -5,3 +5,5 @@ pub mod Machine
 pub mod MachineLaws
 pub mod Compared
 pub mod Transcripts
+pub mod Votes
+pub mod FurtherVotes

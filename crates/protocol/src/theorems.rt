@@ -13,6 +13,8 @@ ghost use Rattle.protocol.specs.Compared.{
 };
 ghost use Rattle.protocol.specs.MachineLaws.{RefusedChangesNothing, SeatedAreEmptied};
 ghost use Rattle.protocol.specs.Transcripts.{Agreement};
+ghost use Rattle.protocol.specs.Votes.{WorkedVotes};
+ghost use Rattle.protocol.specs.FurtherVotes.{FurtherVotes};
 
 /// Under the counts of unaware the rounds are those of Algorithm 1 of IS-RR-2014-004. Whoever was seated in the round
 /// before and is not now is cured and not aware of it.
@@ -47,4 +49,10 @@ pub fn the_machine_obeys_its_laws()
 /// Under every lawful model, whatever is called, all decisions agree.
 pub fn decisions_agree()
     ensures { Agreement }
+{}
+
+/// The votes worked by hand come out as written, and so do further ones, of each refusal in its order.
+pub fn worked_votes_come_out()
+    ensures votes { WorkedVotes }
+    ensures further { FurtherVotes }
 {}
