@@ -3,9 +3,10 @@ mod Choosing
 mod Hearing
 mod Phase
 mod Course
-mod Comparing
-mod Published
 mod Accepted
 mod Calls
 mod Agreeing
+mod Comparing
+mod Published
 mod Working
+mod Showing

@@ -7,3 +7,4 @@ pub mod Compared
 pub mod Transcripts
 pub mod Votes
 pub mod FurtherVotes
+pub mod Example

@@ -11,10 +11,14 @@ ghost use Rattle.protocol.specs.Compared.{
   SendsInAlgorithm2,
   SendsInAlgorithm3,
 };
+ghost use Rattle.protocol.specs.Example.{Example};
 ghost use Rattle.protocol.specs.MachineLaws.{RefusedChangesNothing, SeatedAreEmptied};
 ghost use Rattle.protocol.specs.Transcripts.{Agreement};
 ghost use Rattle.protocol.specs.Votes.{WorkedVotes};
 ghost use Rattle.protocol.specs.FurtherVotes.{FurtherVotes};
+
+use models::LawfulModel;
+use models::standards::Standard;
 
 /// Under the counts of unaware the rounds are those of Algorithm 1 of IS-RR-2014-004. Whoever was seated in the round
 /// before and is not now is cured and not aware of it.
@@ -56,3 +60,11 @@ pub fn worked_votes_come_out()
     ensures votes { WorkedVotes }
     ensures further { FurtherVotes }
 {}
+
+/// The law says something: there are a lawful model and lists of calls with wandering faults, equivocation and a clean
+/// coordinator, after which a decision is filled, and is what all honest controllers proposed.
+pub fn the_law_is_not_empty()
+    ensures { Example }
+{
+    Standard::Carried.lawful();
+}
