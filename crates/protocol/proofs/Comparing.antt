@@ -1,4 +1,4 @@
--- The rounds of the run are the published ones.
+-- What a round of the run makes and sends, in the publications' terms.
 use Rattle.std.proofs.Common.{◌≡◌, ℕ, suc, ◌+◌, ◌<◌, ◌≤◌, false, List, Some, None, inl, inr, refl, ap, ◌∙◌, subst, arith}
 use Rattle.std.proofs.lemmas.Bool.Decides.{nat_tests}
 use Rattle.std.specs.Option.{unwrap_or}
@@ -59,6 +59,7 @@ settled_as n most fallback cand row in_cand in_row e1 e2 =
     subst (λ k. Settled in_cand k n fallback cand row (settled n most fallback cand row)) e2
     (subst (λ k. Settled k most.l n fallback cand row (settled n most fallback cand row)) e1 (settled_is n most fallback cand row))
 
+-- what is heard from a sender of a class, wherever, is what such a process sends
 heard_from : (c : Class) (n : ℕ) (X own : ℕ → Held) (forged : ℕ → ℕ → Held) → ((k : ℕ) → k < n → own k ≡ X k)
     → SendTuple (sending c) n X (λ receiver k. told c (own k) (forged 0 k) (forged receiver k))
 unfolding told

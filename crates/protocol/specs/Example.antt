@@ -12,10 +12,11 @@ use Rattle.protocol.specs.Votes.{ample, setting, full, only}
 abbrev pub opened_with : (proposals : List (List ℕ)) → Opening
 opened_with proposals = record { n = 4; t = 1; proposals = proposals; initial = only 3 }
 
--- two propose 500 and two 610; all that are honest in round 0 propose 500
+-- two propose 500, and two 610
 abbrev pub parted : Opening
 parted = opened_with ((500 ∷ []) ∷ (500 ∷ []) ∷ (610 ∷ []) ∷ (610 ∷ []) ∷ [])
 
+-- all who are honest in round 0 propose 500, and controller 3, which is not, 610
 abbrev pub alike : Opening
 alike = opened_with ((500 ∷ []) ∷ (500 ∷ []) ∷ (500 ∷ []) ∷ (610 ∷ []) ∷ [])
 

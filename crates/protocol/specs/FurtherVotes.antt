@@ -53,8 +53,9 @@ phase_collected = phase_proposed ++ (Seat (only 3) ∷ Forge 3 0 0 (full 610) �
 abbrev phase_decided : List Call
 phase_decided = phase_collected ++ (Seat (only 1) ∷ Close ∷ [])
 
-abbrev after_phase : List Call → (v : List Held) → (rows : List (List Held)) → Vote
-after_phase calls = Leaves (under (standard Carried) (all_accepted calls))
+-- what such calls under carried leave every controller with
+abbrev carried_leaves : List Call → (v : List Held) → (rows : List (List Held)) → Vote
+carried_leaves calls = Leaves (under (standard Carried) (all_accepted calls))
 
 abbrev no_row : List Held
 no_row = replicate 4 empty
@@ -162,10 +163,10 @@ further_votes =
     ∷ []
     ))
     -- a phase, round by round: two candidates are not enough, so the row of the coordinator, controller 0, counts
-    ∷ after_phase phase_opened (full 500 ∷ empty ∷ full 500 ∷ full 610 ∷ []) (replicate 4 no_row)
-    ∷ after_phase phase_proposed (full 500 ∷ empty ∷ full 500 ∷ empty ∷ []) (replicate 4 no_row)
-    ∷ after_phase phase_collected (full 500 ∷ empty ∷ full 500 ∷ empty ∷ []) (row_of_0 ∷ row_of_others ∷ row_of_others ∷ no_row ∷ [])
-    ∷ after_phase phase_decided (full 500 ∷ empty ∷ full 500 ∷ full 500 ∷ []) (row_of_0 ∷ no_row ∷ row_of_others ∷ no_row ∷ [])
+    ∷ carried_leaves phase_opened (full 500 ∷ empty ∷ full 500 ∷ full 610 ∷ []) (replicate 4 no_row)
+    ∷ carried_leaves phase_proposed (full 500 ∷ empty ∷ full 500 ∷ empty ∷ []) (replicate 4 no_row)
+    ∷ carried_leaves phase_collected (full 500 ∷ empty ∷ full 500 ∷ empty ∷ []) (row_of_0 ∷ row_of_others ∷ row_of_others ∷ no_row ∷ [])
+    ∷ carried_leaves phase_decided (full 500 ∷ empty ∷ full 500 ∷ full 500 ∷ []) (row_of_0 ∷ no_row ∷ row_of_others ∷ no_row ∷ [])
     -- a collecting round in which 1 is uniform, and is heard alike by all, and 2 is free; an empty cell takes back a filled one; and what is
     -- refused in between changes nothing
     ∷ Leaves (under (standard Unaware) (
@@ -192,7 +193,7 @@ further_votes =
     ∷ []
     )
     -- a coordinator that is free tells controller 1 a row, column by column, and the others nothing: these go by the fallback
-    ∷ after_phase (split ++ (Forge 0 1 0 (full 610) ∷ Forge 0 1 1 (full 610) ∷ Forge 0 1 2 (full 500) ∷ Close ∷ []))
+    ∷ carried_leaves (split ++ (Forge 0 1 0 (full 610) ∷ Forge 0 1 1 (full 610) ∷ Forge 0 1 2 (full 500) ∷ Close ∷ []))
     (full 400 ∷ full 610 ∷ full 400 ∷ full 400 ∷ []) (replicate 4 no_row)
     -- with stamps it is uniform, and tells all the row forged for receiver 0
     ∷ Leaves (under (stamped (standard Carried)) (all_accepted (split ++ (Forge 0 0 0 (full 500) ∷ Forge 0 0 1 (full 610) ∷ Forge 0 0 2 (full 610) ∷ Close ∷ []))))

@@ -139,14 +139,10 @@ pub record Law (m : Meaning) (log : Transcript) : Type 0 where
   -- where no open was accepted, no decision was
   pub unopened : opening log ≡ None → (i : ℕ) → answered log i ≡ None
 
--- the machine's answers to a list of calls that name one model, and the state that they leave
+-- a list of calls that name one model, with the machine's answers
 abbrev pub transcript : Setting → Meaning → State → List Call → Transcript
 transcript x m s [] = []
 transcript x m s (c ∷ calls) = record { call = c; answer = (step x m s c).1 } ∷ transcript x m (step x m s c).0 calls
-
-abbrev pub after : Setting → Meaning → State → List Call → State
-after x m s [] = s
-after x m s (c ∷ calls) = after x m (step x m s c).0 calls
 
 -- the theorem: whatever is called, what the machine answers obeys the law, under every lawful model
 abbrev pub Agreement : Type 0
