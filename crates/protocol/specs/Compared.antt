@@ -37,15 +37,20 @@ pub record Sized (m : Meaning) (b : Block) : Type 0 where
 abbrev pub hearing : Setting → Block → Seating → (i j k : ℕ) → Held
 hearing x b s = heard s.class (sent_in (terms_of x b) b.round b.memory) s.forged
 
--- the close of a round is, for every unseated controller, a round of an algorithm: from what the controller kept, what the others hear from it
--- and what it hears from them, to what it keeps then
-abbrev pub Runs : {P : Type 0} → Meaning → (Memory → P)
-    → ((n t r : ℕ) → List ℕ → Sending → P → (sent received : ℕ → ℕ → Held) → P → Type 0) → Type 0
-Runs m process algorithm = (x : Setting) (b : Block) (s : Seating) → Sized m b → (i : ℕ) → i < b.n → has s.set i ≡ false
+-- From a block and a seating to the block after the round every unseated controller made one round of an algorithm: from what it kept, what the
+-- others hear from it and what it hears from them, to what it keeps then.
+abbrev pub Makes : {P : Type 0} → (Memory → P) → ((n t r : ℕ) → List ℕ → Sending → P → (sent received : ℕ → ℕ → Held) → P → Type 0)
+    → Setting → Block → Seating → (next : Block) → Type 0
+Makes process algorithm x b s next = (i : ℕ) → i < b.n → has s.set i ≡ false
     → algorithm b.n b.t b.round x.fallback (sending (s.class i)) (process (b.memory i))
     (λ receiver. hearing x b s receiver i)
     (hearing x b s i)
-    (process ((closed x b s).memory i))
+    (process (next.memory i))
+
+-- so does every close of a block with the counts of a model
+abbrev pub Runs : {P : Type 0} → Meaning → (Memory → P)
+    → ((n t r : ℕ) → List ℕ → Sending → P → (sent received : ℕ → ℕ → Held) → P → Type 0) → Type 0
+Runs m process algorithm = (x : Setting) (b : Block) (s : Seating) → Sized m b → Makes process algorithm x b s (closed x b s)
 
 -- with the counts of unaware the rounds are those of Algorithm 1, with those of stamped aware Algorithm 2, and with those of stamped carried Algorithm 3
 abbrev pub RunsAlgorithm1 : Type 0

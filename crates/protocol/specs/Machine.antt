@@ -144,7 +144,10 @@ decision_refusal b controller =
 
 -- the state after each accepted call
 
--- each v is that controller's proposal, but is empty for members of the initial set; all else is empty
+-- what the controllers keep at first: each v is that controller's proposal, but is empty for members of the initial set; all else is empty
+abbrev pub started : List (List ℕ) → (initial : ℕ) → (controller : ℕ) → Memory
+started proposals initial i = record { v = if has initial i then None else slice_index_or (map Some proposals) i None; row = λ _. None; decision = None }
+
 abbrev pub opened : Meaning → (n t : ℕ) → List (List ℕ) → (initial : ℕ) → Block
 opened m n t proposals initial = record {
   n = n;
@@ -152,7 +155,7 @@ opened m n t proposals initial = record {
   counts = m.counts t;
   round = 0;
   last = initial;
-  memory = λ i. record { v = if has initial i then None else slice_index_or (map Some proposals) i None; row = λ _. None; decision = None };
+  memory = started proposals initial;
 }
 
 -- the classes are fixed, by the model named at seat, and nothing is forged yet
