@@ -1,0 +1,8 @@
+mod Filling
+mod Clearing
+mod Heard
+mod Parts
+mod Renewing
+mod Emptying
+mod Opening
+mod Forging

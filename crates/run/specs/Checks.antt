@@ -1,0 +1,34 @@
+-- What the checks of a call find. Assumes nothing.
+use Rattle.std.specs.Prelude.{◌≡◌, ℕ, if◌then◌else◌, nat_lt, List, map, None}
+use Rattle.values.specs.Rules.{Rules, means}
+use Rattle.models.specs.Laws.{Meaning}
+use Rattle.models.specs.declared.classes.Class.TheVariants.{Honest}
+use Rattle.protocol.specs.Rounds.{blank}
+use Rattle.protocol.specs.Machine.{open_refusal, seat_refusal}
+use Rattle.protocol.specs.Machine as machine
+use Rattle.run.specs.declared.calls.Opening.{Opening}
+use Rattle.run.specs.declared.turns.Block.{Block}
+use Rattle.run.specs.declared.turns.Seating.{Seating}
+use Rattle.run.specs.Views.{class_in}
+
+-- an open that is not refused, and the block that it makes
+pub record IsOpened {R : Type 0} (k : Rules) (plain : R → List ℕ) (m : Meaning) (o : Opening R) (room : ℕ) (b : Block) : Type 0 where
+  pub accepted : open_refusal (record { cells = room; fallback = k.fallback }) m o.n o.t (map (means k plain) o.proposals.now) o.initial.0 ≡ None
+  pub n : b.n ≡ o.n
+  pub t : b.t ≡ o.t
+  pub counts : b.counts ≡ m.counts o.t
+  pub round : b.round ≡ 0
+  pub last : b.last.0 ≡ o.initial.0
+
+-- a block without what its controllers keep, and a seating without what is forged: checks do not look at these
+abbrev pub bare : Block → machine.Block
+bare b = record { n = b.n; t = b.t; counts = b.counts; round = b.round; last = b.last.0; memory = λ _. blank }
+
+abbrev pub bare_seating : Block → Seating → machine.Seating
+bare_seating b s = record { set = s.set.0; class = class_in b.n s.classes; forged = λ _ _ _. None }
+
+-- a seat that is not refused, and the classes that it fixes
+pub record IsSeated (m : Meaning) (b : Block) (set : ℕ) (s : Seating) : Type 0 where
+  pub accepted : seat_refusal m (bare b) set ≡ None
+  pub set_is : s.set.0 ≡ set
+  pub classes : class_in b.n s.classes ≡ (λ i. if nat_lt i b.n then m.class b.last.0 set b.t i else Honest)

@@ -1,0 +1,7 @@
+pub mod Turns
+pub mod Stores
+pub mod Views
+pub mod Hearing
+pub mod Closing
+pub mod Calls
+pub mod Checks

@@ -1,0 +1,20 @@
+-- Where the cells of a run lie in the memory that was handed over. Assumes nothing.
+use Rattle.std.specs.Prelude.{ℕ, ◌*◌, List, take, drop, Option}
+
+-- the cells that the rules name, one kind behind the other; work cells and what is past the needed number lie behind them
+pub record Store (R : Type 0) : Type 0 where
+  -- n * n * n cells, by sender, receiver and column
+  pub forged : List (Option R)
+  -- n * n cells, by controller and column
+  pub rows : List (Option R)
+  -- n cells each, by controller
+  pub v : List (Option R)
+  pub decisions : List (Option R)
+
+abbrev pub store : {R : Type 0} → (n : ℕ) → List (Option R) → Store R
+store n cells = record {
+  forged = take (n * n * n) cells;
+  rows = take (n * n) (drop (n * n * n) cells);
+  v = take n (drop (n * n) (drop (n * n * n) cells));
+  decisions = take n (drop n (drop (n * n) (drop (n * n * n) cells)));
+}

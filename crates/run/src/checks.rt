@@ -1,0 +1,132 @@
+ghost use Rattle.std.specs.Prelude.{◌≡◌, ◌≤◌, ℕ, map, None, Some, MatchResult, if◌then◌else◌, nat_lt};
+ghost use Rattle.values.specs.Rules.{means};
+ghost use Rattle.models.specs.declared.classes.Class.TheVariants.{Honest};
+ghost use Rattle.protocol.specs.Machine.{Setting, misfits, open_refusal, seat_refusal, forge_refusal, decision_refusal};
+ghost use Rattle.run.specs.Checks.{IsOpened, IsSeated, bare, bare_seating};
+
+use crate::calls::{Opening, Place};
+use crate::places::needed;
+use crate::turns::{Block, Seating};
+use models::Model;
+use models::classes::Class;
+use models::moves::Moved;
+use models::sets::Set;
+use protocol::stages::Stage;
+use values::kinds::Kind;
+use values::refusals::Refusal;
+
+// The largest block, and how many rounds a run has at most.
+const MOST_CONTROLLERS: usize = 16;
+
+const MOST_ROUNDS: usize = 1000;
+
+// Whether a set has a member not below n, or more than t members.
+fn misfits(n: usize, t: usize, set: Set) -> bool
+    requires { n ≤ 16 }
+    ensures { result ≡ misfits n t set.0 }
+{
+    u32::from(set.0) >> n > 0 || set.size() > t
+}
+
+/// The block that an open makes, or why it is refused; the checks are in the order of the rules.
+pub(crate) fn check_open<K: Kind, M: Model>(
+    model: &M,
+    opening: &Opening<K::Row>,
+    room: usize,
+) -> Result<Block, Refusal>
+    ensures { MatchResult result (λ block. IsOpened K.rules K.plain (M.meaning model.now) opening.now room block)
+        (λ why. open_refusal (record { cells = room; fallback = K.rules.fallback }) (M.meaning model.now) opening.now.n opening.now.t (map (means K.rules K.plain) opening.now.proposals.now) opening.now.initial.0 ≡ Some why) }
+{
+    let Opening {
+        n,
+        t,
+        proposals,
+        initial,
+    } = *opening;
+    if n == 0 || n > MOST_CONTROLLERS {
+        return Err(Refusal::BlockSize);
+    }
+    if t >= n {
+        return Err(Refusal::FaultCount);
+    }
+    let counts = model.counts(t);
+    if n <= counts.b + counts.e + counts.l {
+        return Err(Refusal::Resilience);
+    }
+    if room < needed(n) {
+        return Err(Refusal::StoreSize);
+    }
+    if proposals.len() != n {
+        return Err(Refusal::ProposalCount);
+    }
+    if misfits(n, t, initial) {
+        return Err(Refusal::SetMembers);
+    }
+    Ok(Block {
+        n,
+        t,
+        counts,
+        round: 0,
+        last: initial,
+    })
+}
+
+/// The classes that a seat fixes, or why it is refused.
+pub(crate) fn check_seat<M: Model>(model: &M, block: &Block, set: Set) -> Result<Seating, Refusal>
+    ensures { MatchResult result (λ seating. IsSeated (M.meaning model.now) block.now set.0 seating) (λ why. seat_refusal (M.meaning model.now) (bare block.now) set.0 ≡ Some why) }
+{
+    if block.round >= MOST_ROUNDS {
+        return Err(Refusal::RoundLimit);
+    }
+    if misfits(block.n, block.t, set) {
+        return Err(Refusal::SetMembers);
+    }
+    let moved = Moved {
+        before: block.last,
+        after: set,
+        t: block.t,
+    };
+    if !model.allows(moved) {
+        return Err(Refusal::ForbiddenMove);
+    }
+    // A loop: what std promises of an array made by a closure forgets what the closure holds.
+    let mut classes = [Class::Honest; 16];
+    for controller in 0..block.n {
+        classes[controller] = model.class(moved, controller);
+    }
+    Ok(Seating { set, classes })
+}
+
+/// Why a forged cell is refused at a place, if it is.
+pub(crate) fn check_forge(block: &Block, seating: &Seating, place: Place) -> Result<(), Refusal>
+    ensures { MatchResult result (λ _. forge_refusal (bare block.now) (bare_seating block.now seating.now) place.sender place.receiver place.column ≡ None)
+        (λ why. forge_refusal (bare block.now) (bare_seating block.now seating.now) place.sender place.receiver place.column ≡ Some why) }
+{
+    let Place {
+        sender,
+        receiver,
+        column,
+    } = place;
+    let n = block.n;
+    if sender >= n || receiver >= n || column >= Stage::of(n, block.round).columns(n) {
+        return Err(Refusal::NoSuchPlace);
+    }
+    match seating.classes[sender] {
+        Class::Honest | Class::Silent => Err(Refusal::NotForgeable),
+        Class::Uniform if receiver > 0 => Err(Refusal::NotForgeable),
+        Class::Uniform | Class::Free => Ok(()),
+    }
+}
+
+/// Why a controller's decision is refused, if it is.
+pub(crate) fn check_decision(block: &Block, controller: usize) -> Result<(), Refusal>
+    ensures { MatchResult result (λ _. decision_refusal (bare block.now) controller ≡ None) (λ why. decision_refusal (bare block.now) controller ≡ Some why) }
+{
+    if controller >= block.n {
+        return Err(Refusal::NoSuchPlace);
+    }
+    if block.last.holds(controller) {
+        return Err(Refusal::WasSeated);
+    }
+    Ok(())
+}

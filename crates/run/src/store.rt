@@ -1,0 +1,89 @@
+ghost use Rattle.std.specs.Prelude.{◌≡◌, ℕ, ◌+◌, ◌*◌, ◌<◌, ◌≤◌, length, map, None, replicate, drop, slice_set, if◌then◌else◌};
+ghost use Rattle.values.specs.Cells.{shows};
+ghost use Rattle.values.specs.Rules.{means};
+ghost use Rattle.protocol.specs.Machine.{needed, started};
+ghost use Rattle.run.specs.Stores.{Store, store};
+ghost use Rattle.run.specs.Views.{kept_in};
+
+use crate::calls::{Opening, Place};
+use crate::places::{decision_place, forged_place};
+use values::cells::Cell;
+use values::kinds::Kind;
+
+/// Empties cells.
+pub(crate) fn clear<R: Copy>(cells: &mut [Cell<R>])
+    ensures { cells.new ≡ replicate (length cells.old) None }
+{
+    cells.fill(None);
+}
+
+/// Fills the cells of a block that is opened: each v is that controller's proposal, but is empty for members of the initial
+/// set, and all else is empty.
+pub(crate) fn fill_opened<K: Kind>(cells: &mut [Cell<K::Row>], opening: Opening<K::Row>)
+    requires size { opening.n ≤ 16 }
+    requires roomy { needed opening.n ≤ length cells.old }
+    requires proposals { length opening.proposals.now ≡ opening.n }
+    ensures forged { (store opening.entry.n cells.new).forged ≡ replicate (opening.entry.n * opening.entry.n * opening.entry.n) None }
+    ensures kept { kept_in K.rules K.plain opening.entry.n (store opening.entry.n cells.new) ≡ started (map (means K.rules K.plain) opening.entry.proposals.now) opening.entry.initial.0 }
+    ensures past { drop (needed opening.entry.n) cells.new ≡ drop (needed opening.entry.n) cells.old }
+{
+    let Opening {
+        n,
+        proposals,
+        initial,
+        ..
+    } = opening;
+    let (forged, rest) = cells.split_at_mut(n * n * n);
+    let (rows, rest) = rest.split_at_mut(n * n);
+    let (v, rest) = rest.split_at_mut(n);
+    let (decisions, _) = rest.split_at_mut(n);
+    clear(forged);
+    clear(rows);
+    clear(decisions);
+    for controller in 0..n {
+        v[controller] = if initial.holds(controller) {
+            None
+        } else {
+            Some(proposals[controller])
+        };
+    }
+}
+
+/// Empties the forged cells.
+pub(crate) fn clear_forged<R: Copy>(cells: &mut [Cell<R>], n: usize)
+    requires size { n ≤ 16 }
+    requires roomy { needed n ≤ length cells.old }
+    ensures store { store n cells.new ≡ record (store n cells.old) { forged = replicate (n * n * n) None } }
+    ensures past { drop (needed n) cells.new ≡ drop (needed n) cells.old }
+{
+    let (forged, _) = cells.split_at_mut(n * n * n);
+    clear(forged);
+}
+
+/// Puts a forged cell.
+pub(crate) fn put_forged<R: Copy>(cells: &mut [Cell<R>], n: usize, place: Place, cell: Cell<R>)
+    requires size { n ≤ 16 }
+    requires roomy { needed n ≤ length cells.old }
+    requires sender { place.sender < n }
+    requires receiver { place.receiver < n }
+    requires column { place.column < n }
+    ensures store { store n cells.new ≡ record (store n cells.old) { forged = slice_set (store n cells.old).forged ((place.sender * n + place.receiver) * n + place.column) cell } }
+    ensures past { drop (needed n) cells.new ≡ drop (needed n) cells.old }
+{
+    let (forged, _) = cells.split_at_mut(n * n * n);
+    forged[forged_place(n, place.sender, place.receiver, place.column)] = cell;
+}
+
+/// The decision of a controller.
+pub(crate) fn decision_at<K: Kind>(
+    cells: &[Cell<K::Row>],
+    n: usize,
+    controller: usize,
+) -> Cell<K::Row>
+    requires size { n ≤ 16 }
+    requires roomy { needed n ≤ length cells.now }
+    requires controller { controller < n }
+    ensures { shows K.rules K.plain result ≡ (kept_in K.rules K.plain n (store n cells.now) controller).decision }
+{
+    cells[decision_place(n, controller)]
+}

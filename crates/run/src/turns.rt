@@ -1,0 +1,59 @@
+ghost use Rattle.std.specs.Prelude.{◌≡◌, ◌≤◌, ◌<◌, ◌+◌, suc};
+
+use models::classes::{Class, Counts};
+use models::sets::Set;
+
+/// A block that was opened.
+#[derive(Clone, Copy)]
+pub struct Block {
+    pub n: usize,
+    pub t: usize,
+    /// The counts of the model named at open.
+    pub counts: Counts,
+    /// How many rounds are closed, and so the number of the round that comes.
+    pub round: usize,
+    /// The set of the last closed round, or the initial set where none is closed.
+    pub last: Set,
+    ghost size: { n ≤ 16 },
+    ghost faults: { t < n },
+    ghost resilient: { counts.b + counts.e + counts.l < n },
+}
+
+impl Block {
+    // The block when a round is closed in which the set's members were seated.
+    pub(crate) fn closed(self, set: Set) -> Block
+        requires { self.round < 1000 }
+        ensures same { (result.n ≡ self.n) × (result.t ≡ self.t) × (result.counts ≡ self.counts) }
+        ensures next { (result.round ≡ suc self.round) × (result.last ≡ set) }
+    {
+        let Block {
+            n,
+            t,
+            counts,
+            round,
+            ..
+        } = self;
+        Block {
+            n,
+            t,
+            counts,
+            round: round + 1,
+            last: set,
+        }
+    }
+}
+
+/// A round that is not closed yet.
+#[derive(Clone, Copy)]
+pub struct Seating {
+    pub set: Set,
+    pub classes: [Class; 16],
+}
+
+/// The turn that a run stands at.
+#[derive(Clone, Copy)]
+pub enum Turn {
+    Idle,
+    Waiting(Block),
+    Seated(Block, Seating),
+}
