@@ -6,3 +6,6 @@ mod Renewing
 mod Emptying
 mod Opening
 mod Forging
+mod Steps
+mod Promised
+mod Playing

@@ -5,3 +5,5 @@ pub mod Hearing
 pub mod Closing
 pub mod Calls
 pub mod Checks
+pub mod Runs
+pub mod Promises

@@ -1,4 +1,4 @@
-//! The run: the machine in code, over lent memory. So far what its calls rest on.
+//! The run: the machine in code, over lent memory.
 #![tactic(auto)]
 
 pub mod calls;
@@ -7,6 +7,8 @@ mod choosing;
 mod closing;
 mod hearing;
 mod places;
+pub mod play;
 mod rounds;
+pub mod run;
 mod store;
 mod turns;

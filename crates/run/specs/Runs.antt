@@ -1,0 +1,44 @@
+-- What a run is, as the machine has it. Assumes nothing.
+use Rattle.std.specs.Prelude.{◌≡◌, ℕ, true, List, None, length, drop}
+use Rattle.values.specs.declared.kinds.Kind.{Ghosts}
+use Rattle.values.specs.Cells.{Held}
+use Rattle.models.specs.Laws.{Meaning}
+use Rattle.values.specs.declared.refusals.Refusal.{Refusal}
+use Rattle.protocol.specs.Transcripts.{accepted}
+use Rattle.protocol.specs.Machine.{Setting, State, Call, Open, Close, Decision, Answer, Refused, needed, step}
+use Rattle.run.specs.declared.run.Run.{Run}
+use Rattle.run.specs.Turns.{size_of}
+use Rattle.run.specs.Stores.{store}
+use Rattle.run.specs.Views.{forged_in, view}
+
+module _ {V R : Type 0} {kind : Ghosts V R} where
+  abbrev pub setting : Run V R kind → Setting
+  setting r = record { cells = length r.cells.now; fallback = kind.rules.fallback }
+
+  abbrev pub state : Run V R kind → State
+  state r = view kind.rules kind.plain r.turn r.cells.now
+
+  -- what the forged cells hold, also where no round is seated
+  abbrev pub forged_of : Run V R kind → (sender receiver column : ℕ) → Held
+  forged_of r = forged_in kind.rules kind.plain (size_of r.turn) (store (size_of r.turn) r.cells.now)
+
+  -- the turn and every cell are as they stood
+  pub record Unaltered (before after : Run V R kind) : Type 0 where
+    pub turn : after.turn ≡ before.turn
+    pub cells : after.cells.now ≡ before.cells.now
+
+  -- what each call on a run does: it takes the machine's step, under the model that it names
+  pub record Performs (m : Meaning) (call : Call) (answer : Answer) (before after : Run V R kind) : Type 0 where
+    -- the new state and the answer are the machine's
+    pub stepped : (state after, answer) ≡ step (setting before) m (state before) call
+    -- a refused call leaves the turn and every cell as they stood, and so does a decision
+    pub refused : (why : Refusal) → answer ≡ Refused why → Unaltered before after
+    pub decision_unaltered : (controller : ℕ) → call ≡ Decision controller → Unaltered before after
+    -- where no round is seated the machine has no forged cells: an open leaves them empty, and a close as they were
+    pub open_empties : (n t : ℕ) (proposals : List (List ℕ)) (initial : ℕ) → call ≡ Open n t proposals initial → accepted answer ≡ true → forged_of after ≡ (λ _ _ _. None)
+    pub close_keeps : call ≡ Close → accepted answer ≡ true → forged_of after ≡ forged_of before
+    -- the cells past the needed number are as they stood
+    pub past : drop (needed (size_of after.turn)) after.cells.now ≡ drop (needed (size_of after.turn)) before.cells.now
+    -- the cells are those that were handed over, and as many
+    pub room : length after.cells.now ≡ length before.cells.now
+    pub named : after.cells.ghost_name ≡ before.cells.ghost_name
