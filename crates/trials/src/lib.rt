@@ -6,6 +6,8 @@ mod cell_tests;
 #[cfg(test)]
 mod display_tests;
 #[cfg(test)]
+mod heard_tests;
+#[cfg(test)]
 mod helpers;
 pub mod leaving;
 #[cfg(test)]
@@ -13,16 +15,28 @@ mod leaving_tests;
 #[cfg(test)]
 mod model_tests;
 #[cfg(test)]
+mod play_tests;
+#[cfg(test)]
 mod refusal_tests;
+#[cfg(test)]
+mod refused_tests;
+#[cfg(test)]
+mod run_tests;
 #[cfg(test)]
 mod set_tests;
 #[cfg(test)]
 mod setpoint_tests;
 #[cfg(test)]
+mod sheet_run_tests;
+#[cfg(test)]
 mod sheet_tests;
 #[cfg(test)]
 mod stage_tests;
+#[cfg(test)]
+mod store_tests;
 pub mod unlawful;
+#[cfg(test)]
+mod whole_run_tests;
 #[cfg(test)]
 mod window_tests;
 pub mod windows;

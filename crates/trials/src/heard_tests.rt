@@ -1,0 +1,139 @@
+use crate::helpers::{DONE, follow, forge, open, perform, seat};
+use models::Model;
+use models::stamps::Stamped;
+use models::standards::Standard;
+use run::calls::Call;
+use run::run::Run;
+use std::process::Abort;
+use values::setpoints::Setpoint;
+
+const NONE: Option<u16> = None;
+
+// Four controllers under carried: the upset arrives after its new host has sent, so whoever was seated before may forge.
+#[test]
+fn a_phase_goes_round_by_round(rt: HostRuntime) {
+    let calls = [
+        open(4, 1, &[500, 500, 500, 610], 1 << 1),
+        seat(1 << 3),
+        forge(1, 0, 0, Some(500)),
+        forge(1, 2, 0, Some(610)),
+        forge(1, 2, 0, Some(500)), // a later cell replaces an earlier one
+        Call::Close,
+        seat(1 << 3),
+        forge(3, 0, 0, Some(610)),
+        Call::Close,
+        seat(1 << 1),
+        Call::Close,
+    ];
+    let high = Some(500);
+    // how many calls, and v then
+    let stages = [
+        (1, [high, None, high, Some(610)]),
+        (6, [high, None, high, None]),
+        (9, [high, None, high, None]),
+        (11, [high, None, high, high]),
+    ];
+    for (made, v) in stages {
+        let mut cells = [None; 116];
+        {
+            let mut run = Run::<Setpoint>::new(&mut cells);
+            perform(&rt, &mut run, &Standard::Carried, &calls[..made]);
+        }
+        assert_eq!(rt; &cells[80..84], v.as_slice(), "after {made} calls");
+        // 3 was seated in the collecting round
+        let known = made >= 9;
+        let row = [high, None, high, Some(610)];
+        let row = if known { row } else { [NONE; 4] };
+        assert_eq!(rt; &cells[64..68], row.as_slice(), "after {made} calls");
+        assert_eq!(rt; &cells[76..80], [NONE; 4].as_slice());
+    }
+}
+
+// Six controllers under unaware. In the collecting round 1 is uniform and 2 is free.
+#[test]
+fn a_uniform_sender_tells_all_the_same(rt: HostRuntime) {
+    let mut cells = [None; 318];
+    {
+        let model = Standard::Unaware;
+        let mut run = Run::<Setpoint>::new(&mut cells);
+        let steps = [
+            (open(6, 1, &[500; 6], 0), DONE),
+            (seat(1 << 1), DONE),
+            (Call::Close, DONE),
+            (seat(1 << 2), DONE),
+            (forge(1, 0, 0, Some(610)), DONE),
+            (forge(2, 0, 0, Some(620)), DONE),
+            (forge(0, 0, 0, Some(630)), Err(10)),
+            (forge(2, 3, 0, Some(630)), DONE),
+            (seat(0), Err(8)),
+            (forge(2, 4, 0, Some(640)), DONE),
+            (forge(2, 3, 0, None), DONE),
+            (Call::Close, DONE),
+        ];
+        follow(&rt, &mut run, &model, &steps);
+    }
+    let told = [Some(620), None, None, None, Some(640), None];
+    let same = Some(500);
+    for receiver in 0..6 {
+        let row = 216 + 6 * receiver;
+        let heard = [same, Some(610), told[receiver], same, same, same];
+        let heard = if receiver == 2 { [NONE; 6] } else { heard };
+        assert_eq!(rt; &cells[row..row + 6], heard.as_slice(), "row of {receiver}");
+    }
+}
+
+// Four controllers that hold nothing in common, so that the row of the coordinator, 0, decides; it was seated before. The
+// values on which they settle.
+fn coordinator_tells<M: Model>(
+    rt: &impl Abort,
+    model: &M,
+    receiver: usize,
+    row: [u16; 3],
+) -> [Option<u16>; 4] {
+    let mut cells = [None; 116];
+    {
+        let mut run = Run::<Setpoint>::new(&mut cells);
+        let calls = [
+            open(4, 1, &[500, 610, 500, 610], 0),
+            seat(0),
+            Call::Close,
+            seat(1 << 0),
+            Call::Close,
+            seat(0),
+            forge(0, receiver, 0, Some(row[0])),
+            forge(0, receiver, 1, Some(row[1])),
+            forge(0, receiver, 2, Some(row[2])),
+            Call::Close,
+        ];
+        perform(rt, &mut run, model, &calls);
+    }
+    [cells[80], cells[81], cells[82], cells[83]]
+}
+
+#[test]
+fn stamps_keep_a_coordinator_from_telling_one_alone(rt: HostRuntime) {
+    let v = coordinator_tells(&rt, &Standard::Carried, 1, [610, 610, 500]);
+    assert_eq!(rt; v, [Some(400), Some(610), Some(400), Some(400)]);
+    let v = coordinator_tells(&rt, &Stamped(Standard::Carried), 0, [500, 610, 610]);
+    assert_eq!(rt; v, [Some(610); 4]);
+}
+
+// Four controllers, opened under carried, which needs three cells for a proposal; aware would need two.
+#[test]
+fn the_counts_are_those_of_the_model_at_open(rt: HostRuntime) {
+    let mut cells = [None; 116];
+    {
+        let mut run = Run::<Setpoint>::new(&mut cells);
+        let steps = [(open(4, 1, &[500, 500, 610, 610], 1 << 2), DONE)];
+        follow(&rt, &mut run, &Standard::Carried, &steps);
+        follow(&rt, &mut run, &Standard::Fixed, &[(seat(1 << 1), Err(7))]);
+        // the model at seat gives moves and classes: 2 was left, and is silent under aware
+        let steps = [
+            (seat(0), DONE),
+            (forge(2, 0, 0, Some(500)), Err(10)),
+            (Call::Close, DONE),
+        ];
+        follow(&rt, &mut run, &Standard::Aware, &steps);
+    }
+    assert_eq!(rt; &cells[80..84], [NONE; 4].as_slice());
+}

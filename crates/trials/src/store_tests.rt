@@ -1,0 +1,167 @@
+use crate::helpers::{DONE, Outcome, ask, decided, decision, follow, forge, open, perform, seat};
+use models::standards::Standard;
+use run::calls::Call;
+use run::run::Run;
+use std::process::Abort;
+use values::setpoints::Setpoint;
+
+const OLD: Option<u16> = Some(777);
+
+fn bother(rt: &impl Abort, run: &mut Run<Setpoint>, refused: &[(Call<u16>, u8)]) {
+    for (call, number) in refused {
+        follow(rt, run, &Standard::Fixed, &[(*call, Err(*number))]);
+    }
+}
+
+// Decisions alter nothing, whether they are refused or not.
+fn ask_for_decisions(run: &mut Run<Setpoint>) -> [Outcome; 4] {
+    let model = Standard::Fixed;
+    [0, 1, 2, 3].map(|controller| ask(run, &model, decision(controller)))
+}
+
+fn bother_idle(rt: &impl Abort, run: &mut Run<Setpoint>) {
+    let refused = [
+        (open(0, 0, &[], 0), 1),
+        (open(4, 4, &[600; 4], 0), 2),
+        (open(3, 1, &[600; 3], 0), 3),
+        (open(5, 1, &[600; 5], 0), 4),
+        (open(4, 1, &[600; 3], 0), 5),
+        (open(4, 1, &[600; 4], 0b11), 6),
+        (seat(0), 8),
+        (forge(0, 0, 0, Some(600)), 8),
+        (Call::Close, 8),
+        (decision(0), 8),
+    ];
+    bother(rt, run, &refused);
+}
+
+fn bother_waiting(rt: &impl Abort, run: &mut Run<Setpoint>) {
+    let refused = [
+        (open(4, 1, &[600; 4], 0), 8),
+        (seat(0b11), 6),
+        (seat(1 << 3), 7),
+        (forge(2, 0, 0, Some(600)), 8),
+        (Call::Close, 8),
+        (decision(4), 9),
+        (decision(2), 12),
+    ];
+    bother(rt, run, &refused);
+}
+
+fn bother_seated(rt: &impl Abort, run: &mut Run<Setpoint>) {
+    let refused = [
+        (open(4, 1, &[600; 4], 0), 8),
+        (seat(1 << 2), 8),
+        (forge(2, 4, 0, Some(600)), 9),
+        (forge(2, 0, 4, Some(600)), 9),
+        (forge(0, 0, 0, Some(600)), 10),
+        (decision(4), 9),
+        (decision(2), 12),
+    ];
+    bother(rt, run, &refused);
+}
+
+// A whole run of four controllers, of which 2 is always seated and tells each something else; there are refused calls
+// and decisions between the others or there are none.
+fn whole_run(rt: &impl Abort, cells: &mut [Option<u16>], bothered: bool) -> [Outcome; 4] {
+    let model = Standard::Fixed;
+    let mut run = Run::<Setpoint>::new(cells);
+    if bothered {
+        bother_idle(rt, &mut run);
+    }
+    perform(
+        rt,
+        &mut run,
+        &model,
+        &[open(4, 1, &[500, 500, 600, 610], 1 << 2)],
+    );
+    for _ in 0..13 {
+        if bothered {
+            bother_waiting(rt, &mut run);
+            let _ = ask_for_decisions(&mut run);
+        }
+        perform(
+            rt,
+            &mut run,
+            &model,
+            &[seat(1 << 2), forge(2, 0, 0, Some(500))],
+        );
+        if bothered {
+            bother_seated(rt, &mut run);
+            let _ = ask_for_decisions(&mut run);
+        }
+        perform(
+            rt,
+            &mut run,
+            &model,
+            &[forge(2, 3, 0, Some(610)), Call::Close],
+        );
+    }
+    if bothered {
+        bother_waiting(rt, &mut run);
+    }
+    ask_for_decisions(&mut run)
+}
+
+// In the first round 0 hears 500 three times, in the second 0 notes down 500 twice, and in the third all take what the
+// coordinator, 0, noted down.
+#[test]
+fn a_refused_call_leaves_all_as_it_was(rt: HostRuntime) {
+    let mut cells = [OLD; 120];
+    let mut bothered = [OLD; 120];
+    let high = decided(Some(500));
+    assert_eq!(rt;
+        whole_run(&rt, &mut cells, false),
+        [high, high, Err(12), high]
+    );
+    assert_eq!(rt;
+        whole_run(&rt, &mut bothered, true),
+        [high, high, Err(12), high]
+    );
+    assert_eq!(rt; cells, bothered);
+    // the cells past those that the block needs
+    assert_eq!(rt; &cells[116..], [OLD; 4].as_slice());
+}
+
+#[test]
+fn nothing_old_is_seen(rt: HostRuntime) {
+    let mut cells = [OLD; 116];
+    {
+        let mut run = Run::<Setpoint>::new(&mut cells);
+        let steps = [
+            (decision(0), Err(8)),
+            (open(4, 1, &[500, 510, 520, 530], 1 << 2), DONE),
+            (decision(0), decided(None)),
+        ];
+        follow(&rt, &mut run, &Standard::Carried, &steps);
+    }
+    // forged cells and rows, v, and decisions
+    for place in 0..80 {
+        assert_eq!(rt; cells[place], None, "at {place}");
+    }
+    let v = [Some(500), Some(510), None, Some(530)];
+    assert_eq!(rt; &cells[80..84], v.as_slice());
+    for place in 84..88 {
+        assert_eq!(rt; cells[place], None, "at {place}");
+    }
+}
+
+// After a seat nothing is forged yet: what was forged in the round before is gone.
+#[test]
+fn a_seat_forgets_what_was_forged(rt: HostRuntime) {
+    let mut cells = [OLD; 116];
+    {
+        let mut run = Run::<Setpoint>::new(&mut cells);
+        let calls = [
+            open(4, 1, &[500; 4], 1 << 2),
+            seat(1 << 2),
+            forge(2, 3, 0, Some(610)),
+            Call::Close,
+            seat(1 << 2),
+        ];
+        perform(&rt, &mut run, &Standard::Fixed, &calls);
+    }
+    for place in 0..64 {
+        assert_eq!(rt; cells[place], None, "at {place}");
+    }
+}
