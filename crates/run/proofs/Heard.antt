@@ -27,13 +27,6 @@ column_fits Collecting n column i lt h = omega arith
 column_fits Deciding n column i lt h = h
 column_fits Maintaining n column i lt h = omega arith
 
--- and every message has column 0
-pub first_column : (stage : Stage) (n i : ℕ) → i < n → 0 < columns_of stage n
-first_column Proposing n i lt = omega arith
-first_column Collecting n i lt = omega arith
-first_column Deciding n i lt = omega arith
-first_column Maintaining n i lt = omega arith
-
 -- a deciding round has a phase
 pub deciding_phase : (n r : ℕ) → stage_of n r ≡ Deciding → r / 3 < n
 unfolding stage_of

@@ -8,4 +8,5 @@ mod Opening
 mod Forging
 mod Steps
 mod Promised
+pub mod Sizes
 mod Playing

@@ -19,6 +19,7 @@ use Rattle.run.specs.Calls.{asked, said}
 use Rattle.run.specs.Views.{view}
 use Rattle.run.specs.Runs.{state, Performs}
 use Rattle.run.specs.Promises.{state_after, block_size, replies, entries}
+use Rattle.run.proofs.Sizes.{step_size, size_is}
 
 -- the machine's answers to a list of calls, from any state
 abbrev pub replies_from : Setting → Meaning → State → List machine.Call → List machine.Answer
@@ -29,24 +30,7 @@ entries_are : (x : Setting) (m : Meaning) (s : State) (calls : List machine.Call
 entries_are x m s [] = refl
 entries_are x m s (c ∷ calls) = ap (◌∷◌ (record { call = c; answer = (step x m s c).1 })) (entries_are x m (step x m s c).0 calls)
 
--- once there is a block its size stays
-unless_size : (k : ℕ) (why : Option Refusal) (before next : State) (answer : machine.Answer) → block_size before ≡ k → block_size next ≡ k → block_size (unless why before next answer).0 ≡ k
-unless_size k None before next answer e f = f
-unless_size k (Some why) before next answer e f = e
-
-step_size : (x : Setting) (m : Meaning) (k : ℕ) (s : State) (c : machine.Call) → block_size s ≡ suc k → block_size (step x m s c).0 ≡ suc k
-step_size x m k Idle c e = absurd (omega (arith, e))
-step_size x m k (Waiting b) (Open n t proposals initial) e = e
-step_size x m k (Waiting b) (Seat set) e = unless_size (suc k) (seat_refusal m b set) (Waiting b) _ machine.Done e e
-step_size x m k (Waiting b) (Forge j i c cell) e = e
-step_size x m k (Waiting b) Close e = e
-step_size x m k (Waiting b) (Decision i) e = unless_size (suc k) (decision_refusal b i) (Waiting b) (Waiting b) _ e e
-step_size x m k (Seated b s) (Open n t proposals initial) e = e
-step_size x m k (Seated b s) (Seat set) e = e
-step_size x m k (Seated b s) (Forge j i c cell) e = unless_size (suc k) (forge_refusal b s j i c) (Seated b s) _ machine.Done e e
-step_size x m k (Seated b s) Close e = e
-step_size x m k (Seated b s) (Decision i) e = unless_size (suc k) (decision_refusal b i) (Seated b s) (Seated b s) _ e e
-
+-- so does the size of a block that there is
 after_size : (x : Setting) (m : Meaning) (k : ℕ) (s : State) (calls : List machine.Call) → block_size s ≡ suc k → block_size (state_after x m s calls) ≡ suc k
 after_size x m k s [] e = e
 after_size x m k s (c ∷ calls) e = after_size x m k (step x m s c).0 calls (step_size x m k s c e)
@@ -73,14 +57,6 @@ none_left P Q [] None m e = refl
 none_left P Q (call ∷ rest) None m e = absurd (omega (arith, m.0))
 none_left P Q rest (Some y) m e = absurd (grind arith)
 
-size_is : {V R : Type 0} {kind : Ghosts V R} (r : Run V R kind) → block_size (state r) ≡ size_of r.turn
-size_is {kind = kind} r = go r.turn
-  where
-    go : (turn : Turn) → block_size (view kind.rules kind.plain turn r.cells.now) ≡ size_of turn
-    go turns.Idle = refl
-    go (turns.Waiting b) = refl
-    go (turns.Seated b s) = refl
-
 module _ {V R : Type 0} (kind : Ghosts V R) (m : Meaning) (calls : List (Call R)) (cells : List (Option R)) where
   abbrev x : Setting
   x = record { cells = length cells; fallback = kind.rules.fallback }
@@ -100,14 +76,6 @@ module _ {V R : Type 0} (kind : Ghosts V R) (m : Meaning) (calls : List (Call R)
     pub ends : state_after x m (state run) (acts left) ≡ state_after x m Idle (acts calls)
     pub room : length run.cells.now ≡ length cells
     pub past : drop end run.cells.now ≡ drop end cells
-
-  pub begins : (run : Run V R kind) → state run ≡ Idle → run.cells.now ≡ cells → InPlay run [] calls
-  begins run idle same = record {
-    told = ap (λ (s : State). replies_from x m s (acts calls)) idle;
-    ends = ap (λ (s : State). state_after x m s (acts calls)) idle;
-    room = ap length same;
-    past = ap (drop end) same;
-  }
 
   goes_on : (before next : Run V R kind) (answers : List (Result (Answer R) Refusal)) (call : Call R) (answer : Result (Answer R) Refusal) (left : List (Call R))
       → InPlay before answers (call ∷ left) → Performs m (asked kind.rules kind.plain call) (said kind.rules kind.plain answer) before next → InPlay next (answers ++ answer ∷ []) left

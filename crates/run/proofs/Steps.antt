@@ -28,11 +28,6 @@ use Rattle.run.proofs.Forging.{none_forged, one_forged}
 pub open_empties : {R : Type 0} (k : Rules) (plain : R → List ℕ) (n n' : ℕ) (after : List (Option R)) → n' ≡ n → (store n after).forged ≡ replicate (n * n * n) None → forged_in k plain n' (store n' after) ≡ (λ _ _ _. None)
 open_empties k plain n n' after n_is emptied = rw n_is (none_forged k plain n (store n after) (n * n * n) emptied)
 
--- a close leaves the forged cells
-pub close_keeps : {R : Type 0} (k : Rules) (plain : R → List ℕ) (n size : ℕ) (before after : List (Option R)) → size ≡ n → (store n after).forged ≡ (store n before).forged
-    → forged_in k plain n (store n after) ≡ forged_in k plain size (store size before)
-close_keeps k plain n size before after size_is same = rw (size_is, ap (λ forged. forged_in k plain n (record (store n before) { forged = forged })) same) refl
-
 module _ {R : Type 0} (k : Rules) (plain : R → List ℕ) (turn : Turn) (call : Call R) (cells after : List (Option R)) (block : Block) where
   module _ (set' : Set) (asks : call ≡ Seat set') (emptied : store block.n after ≡ record (store block.n cells) { forged = replicate (block.n * block.n * block.n) None }) where
     pub seat_step : (x : Setting) (m : Meaning) (seating : Seating) → turn ≡ Waiting block → IsSeated m block set'.0 seating

@@ -1,7 +1,6 @@
-ghost use Rattle.std.specs.Prelude.{◌≡◌, ◌≤◌, ℕ, map, None, Some, MatchResult, if◌then◌else◌, nat_lt};
+ghost use Rattle.std.specs.Prelude.{◌≡◌, ◌≤◌, map, None, Some, MatchResult};
 ghost use Rattle.values.specs.Rules.{means};
-ghost use Rattle.models.specs.declared.classes.Class.TheVariants.{Honest};
-ghost use Rattle.protocol.specs.Machine.{Setting, misfits, open_refusal, seat_refusal, forge_refusal, decision_refusal};
+ghost use Rattle.protocol.specs.Machine.{misfits, open_refusal, seat_refusal, forge_refusal, decision_refusal};
 ghost use Rattle.run.specs.Checks.{IsOpened, IsSeated, bare, bare_seating};
 
 use crate::calls::{Opening, Place};

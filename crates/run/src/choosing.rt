@@ -1,4 +1,4 @@
-ghost use Rattle.std.specs.Prelude.{◌≡◌, ◌+◌, ◌<◌, length, suc};
+ghost use Rattle.std.specs.Prelude.{◌≡◌, ◌+◌, ◌<◌, length};
 ghost use Rattle.values.specs.Rules.{means};
 ghost use Rattle.values.specs.Cells.{shows, seen};
 ghost use Rattle.protocol.specs.Rounds.{at_place, chosen, held_by, settled};

@@ -1,6 +1,6 @@
 ghost use Rattle.std.specs.Prelude.{◌≡◌, map, length, drop, IfOk, IfErr};
 ghost use Rattle.models.specs.Laws.{Lawful};
-ghost use Rattle.protocol.specs.Machine.{Setting, Idle, needed};
+ghost use Rattle.protocol.specs.Machine.{Idle, needed};
 ghost use Rattle.protocol.specs.Transcripts.{Law};
 ghost use Rattle.run.specs.Calls.{asked, said};
 ghost use Rattle.run.specs.declared.turns.Turn.{Turn};

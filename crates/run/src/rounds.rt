@@ -1,5 +1,5 @@
 ghost use Rattle.std.specs.Prelude.{◌≡◌, ℕ, suc, ◌+◌, ◌*◌, ◌<◌, ◌≤◌, length, Some, None, slice_index_or};
-ghost use Rattle.values.specs.Cells.{shows, seen, winning};
+ghost use Rattle.values.specs.Cells.{seen, winning};
 ghost use Rattle.protocol.specs.Stages.{coordinator_of};
 ghost use Rattle.protocol.specs.Rounds.{chosen, proposed, maintained, candidate, settled};
 ghost use Rattle.run.specs.Hearing.{hears, IsWithin};

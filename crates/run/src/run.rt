@@ -38,7 +38,6 @@ impl<'a, K: Kind> Run<'a, K> {
     ghost use Rattle.run.specs.Stores.{store};
     ghost use Rattle.run.specs.Views.{kept_in};
     ghost use Rattle.protocol.specs.Machine as machine;
-    ghost use Rattle.run.specs.declared.turns.Turn.TheVariants.{Idle};
     ghost use Rattle.run.specs.Calls.{asked, said, said_done, said_cell};
     ghost use Rattle.run.specs.Runs.{setting, state, Performs};
 

@@ -1,8 +1,8 @@
-ghost use Rattle.std.specs.Prelude.{◌≡◌, ℕ, ◌+◌, ◌*◌, ◌<◌, ◌≤◌, length, map, None, replicate, drop, slice_set, if◌then◌else◌};
+ghost use Rattle.std.specs.Prelude.{◌≡◌, ◌+◌, ◌*◌, ◌<◌, ◌≤◌, length, map, None, replicate, drop, slice_set};
 ghost use Rattle.values.specs.Cells.{shows};
 ghost use Rattle.values.specs.Rules.{means};
 ghost use Rattle.protocol.specs.Machine.{needed, started};
-ghost use Rattle.run.specs.Stores.{Store, store};
+ghost use Rattle.run.specs.Stores.{store};
 ghost use Rattle.run.specs.Views.{kept_in};
 
 use crate::calls::{Opening, Place};
