@@ -14,7 +14,12 @@ use Rattle.values.specs.declared.refusals.Refusal.TheVariants.{
   NotForgeable,
   RoundLimit,
   WasSeated,
+  FileSize,
+  HeaderCode,
+  Layout,
   Value,
+  ForgeryLine,
+  TextRoom,
 }
 
 abbrev pub number_of : Refusal → ℕ
@@ -30,4 +35,9 @@ number_of NoSuchPlace = 9
 number_of NotForgeable = 10
 number_of RoundLimit = 11
 number_of WasSeated = 12
+number_of FileSize = 21
+number_of HeaderCode = 22
+number_of Layout = 23
 number_of Value = 24
+number_of ForgeryLine = 25
+number_of TextRoom = 26

@@ -41,6 +41,15 @@ impl<'a> Buffer<'a> {
         }
     }
 
+    /// Adds words.
+    pub fn put_str(&mut self, words: &str)
+        ensures { Puts self.old words.now self.new }
+    {
+        for byte in words.as_bytes() {
+            self.put_byte(*byte);
+        }
+    }
+
     /// Adds a number in decimal.
     // Digit by digit: `Display` is ruled out above, and a library for digits would be one more thing to trust.
     pub fn put_decimal(&mut self, number: u16)

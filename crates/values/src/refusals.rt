@@ -31,8 +31,18 @@ pub enum Refusal {
     RoundLimit = 11,
     /// The controller was seated in the last closed round, or is in the initial set and none is closed.
     WasSeated = 12,
+    /// A run file has under 16 or over 65,535 bytes.
+    FileSize = 21,
+    /// A code in a run file's header has no meaning, or its byte 5 is not 0.
+    HeaderCode = 22,
+    /// An offset in a run file's header or its length is not what its counts give.
+    Layout = 23,
     /// A value is out of range, or its bytes are not as many as its width.
     Value = 24,
+    /// A forgery line of a run file is faulty.
+    ForgeryLine = 25,
+    /// The text buffer has under 512 bytes.
+    TextRoom = 26,
 }
 
 // By hand: no derive of std makes a `From`, and the gate refuses an impl by a derive of our own.
