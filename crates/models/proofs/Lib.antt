@@ -1,4 +1,4 @@
 pub mod Members
 pub mod Bounds
 pub mod Stamping
-mod Table
+pub mod Table

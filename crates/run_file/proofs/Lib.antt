@@ -1,0 +1,10 @@
+mod Lining
+mod Voting
+mod Listing
+mod Outcomes
+mod Shortness
+mod Fitting
+mod Agreeing
+mod Ending
+mod Cutting
+mod Lawfulness

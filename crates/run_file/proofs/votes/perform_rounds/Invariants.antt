@@ -1,0 +1,18 @@
+use Rattle.std.proofs.Common.{◌≡◌, ◌+◌}
+use Rattle.run.specs.Runs.{setting, state}
+use Rattle.run_file.specs.Votes.{rounds_from, run_through}
+use Rattle.run_file.specs.InCode.{lines_in, sets_in, Checked, Keeps}
+use Rattle.run_file.proofs.votes.perform_rounds.Given as goal
+
+abbrev pub invariant-loop-set : goal.invariant-loop-set
+invariant-loop-set g l =
+    (l.sets.width ≡ 2)
+    × (l.lines.width ≡ l.fn.lines.width)
+    × (l.round + l.sets.count ≡ l.fn.sets.count)
+    × Checked g.K.Kind.rules l.round (lines_in l.lines)
+    × (run_through (setting l.initial.run) (g.M.Model.meaning l.model) (state l.initial.run) (rounds_from 0 (sets_in l.fn.sets) (lines_in l.fn.lines))
+    ≡ run_through (setting l.initial.run) (g.M.Model.meaning l.model) (state l.run) (rounds_from l.round (sets_in l.sets) (lines_in l.lines)))
+    × Keeps l.initial.run l.run
+
+abbrev pub decreases-loop-set : goal.decreases-loop-set
+decreases-loop-set g l = l.sets.count

@@ -1,0 +1,99 @@
+use crate::words::word;
+use models::standards::Standard;
+use values::refusals::Refusal;
+
+/// The kind of the values in a run file.
+#[derive(Clone, Copy, PartialEq, Eq, Debug)]
+pub enum ValueKind {
+    Setpoint,
+    Sheet,
+}
+
+/// The header of a run file.
+#[derive(Clone, Copy)]
+pub struct Header {
+    pub kind: ValueKind,
+    pub model: Standard,
+    pub stamps: bool,
+    pub n: u8,
+    pub t: u8,
+    /// How many rounds there are.
+    pub rounds: u16,
+    /// How many forgery lines there are.
+    pub forgeries: u16,
+    pub proposals_at: u16,
+    pub sets_at: u16,
+    pub forgeries_at: u16,
+}
+
+// A run file has so many bytes at least, and so many at most.
+const LEAST_BYTES: usize = 16;
+
+const MOST_BYTES: usize = 65535;
+
+impl ValueKind {
+    ghost use Rattle.std.specs.Prelude.{◌≡◌};
+    ghost use Rattle.run_file.specs.Headers.{kind_with};
+
+    /// The kind with a code; other codes have none.
+    pub(crate) fn with_code(code: u8) -> Option<ValueKind>
+        ensures { result ≡ kind_with code }
+    {
+        match code {
+            0 => Some(ValueKind::Setpoint),
+            1 => Some(ValueKind::Sheet),
+            _ => None,
+        }
+    }
+}
+
+impl Header {
+    ghost use Rattle.std.specs.Prelude.{◌≡◌, ◌≤◌, length};
+    ghost use Rattle.run_file.specs.Headers.{header_of, coded, stamps_with};
+
+    /// The header of a run file, or why it has none.
+    pub(crate) fn read(file: &[u8]) -> Result<Header, Refusal>
+        ensures { result ≡ header_of file.now }
+    {
+        if file.len() < LEAST_BYTES || file.len() > MOST_BYTES {
+            return Err(Refusal::FileSize);
+        }
+        Header::coded(file).ok_or(Refusal::HeaderCode)
+    }
+
+    // The header, if each code has a meaning and byte 5 is 0.
+    fn coded(file: &[u8]) -> Option<Header>
+        requires { 16 ≤ length file.now }
+        ensures { result ≡ coded file.now }
+    {
+        let kind = ValueKind::with_code(file[0])?;
+        let model = Standard::try_from(file[1]).ok()?;
+        let stamps = Header::with_stamps(file[2])?;
+        if file[5] != 0 {
+            return None;
+        }
+        Some(Header {
+            kind,
+            model,
+            stamps,
+            n: file[3],
+            t: file[4],
+            rounds: word(file, 6),
+            forgeries: word(file, 8),
+            proposals_at: word(file, 10),
+            sets_at: word(file, 12),
+            forgeries_at: word(file, 14),
+        })
+    }
+
+    // Whether a code is with stamps or without; other codes are neither.
+    fn with_stamps(code: u8) -> Option<bool>
+        ensures { result ≡ stamps_with code }
+    {
+        match code {
+            0 => Some(false),
+            1 => Some(true),
+            _ => None,
+        }
+    }
+}

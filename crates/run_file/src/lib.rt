@@ -1,0 +1,13 @@
+//! Run files: reading one, performing the run that it tells, and listing what its controllers then hold.
+#![tactic(auto)]
+
+mod headers;
+mod lines;
+pub mod listings;
+mod parts;
+mod pieces;
+mod reading;
+mod stops;
+mod texts;
+mod votes;
+mod words;

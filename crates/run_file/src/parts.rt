@@ -1,0 +1,55 @@
+ghost use Rattle.std.specs.Prelude.{◌≤◌};
+
+use crate::headers::Header;
+use crate::lines::LINE_HEAD;
+use crate::pieces::Pieces;
+use crate::words::word;
+use models::sets::Set;
+use values::refusals::Refusal;
+
+// Where the proposals start, and the bytes of a set.
+const PROPOSALS_START: usize = 16;
+
+const SET_WIDTH: usize = 2;
+
+/// The parts of a run file behind its header.
+#[derive(Clone, Copy)]
+pub(crate) struct Parts<'f> {
+    pub proposals: Pieces<'f>,
+    pub initial: Set,
+    pub sets: Pieces<'f>,
+    pub lines: Pieces<'f>,
+}
+
+impl<'f> Parts<'f> {
+    ghost use Rattle.std.specs.Prelude.{◌≡◌, false, MatchResult};
+    ghost use Rattle.values.specs.declared.refusals.Refusal.TheVariants.{Layout};
+    ghost use Rattle.run_file.specs.Files.{laid_out};
+    ghost use Rattle.run_file.specs.InCode.{IsParted};
+
+    /// The parts of a file, if its offsets and its length are what the counts give for values of a width.
+    pub(crate) fn of(file: &'f [u8], header: &Header, width: usize) -> Result<Parts<'f>, Refusal>
+        requires { width ≤ 16 }
+        ensures { MatchResult result (λ parts. IsParted width header.now file.now parts) (λ why. (laid_out width header.now file.now ≡ false) × (why ≡ Layout)) }
+    {
+        let n = usize::from(header.n);
+        let rounds = usize::from(header.rounds);
+        let forgeries = usize::from(header.forgeries);
+        let sets_start = PROPOSALS_START + n * width;
+        let lines_start = sets_start + SET_WIDTH * (rounds + 1);
+        let end = lines_start + forgeries * (LINE_HEAD + width);
+        if usize::from(header.proposals_at) != PROPOSALS_START
+            || usize::from(header.sets_at) != sets_start
+            || usize::from(header.forgeries_at) != lines_start
+            || file.len() != end
+        {
+            return Err(Refusal::Layout);
+        }
+        Ok(Parts {
+            proposals: Pieces::over(n, width, &file[PROPOSALS_START..]),
+            initial: Set(word(file, sets_start)),
+            sets: Pieces::over(rounds, SET_WIDTH, &file[sets_start + SET_WIDTH..]),
+            lines: Pieces::over(forgeries, LINE_HEAD + width, &file[lines_start..]),
+        })
+    }
+}

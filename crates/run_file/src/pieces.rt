@@ -1,0 +1,48 @@
+ghost use Rattle.std.specs.Prelude.{◌≤◌, ◌*◌, length};
+
+/// Pieces of one width, one behind the other.
+#[derive(Clone, Copy)]
+pub(crate) struct Pieces<'f> {
+    count: usize,
+    width: usize,
+    bytes: &'f [u8],
+    ghost roomy: { count * width ≤ length bytes.now },
+}
+
+impl<'f> Pieces<'f> {
+    ghost use Rattle.std.specs.Prelude.{◌≡◌, ◌+◌, ◌∷◌, [], MatchOption};
+    ghost use Rattle.run_file.specs.Files.{pieces};
+    ghost use Rattle.run_file.specs.InCode.{pieces_of};
+
+    /// So many pieces, from the first byte on.
+    pub(crate) fn over(count: usize, width: usize, bytes: &'f [u8]) -> Pieces<'f>
+        requires { count * width ≤ length bytes.now }
+        ensures pieces { pieces_of result ≡ pieces width count bytes.now }
+        ensures shape { (result.width ≡ width) × (result.count ≡ count) }
+    {
+        Pieces {
+            count,
+            width,
+            bytes,
+        }
+    }
+
+    /// The first piece, and those behind it.
+    pub(crate) fn split_first(self) -> Option<(&'f [u8], Pieces<'f>)>
+        ensures { MatchOption result ((pieces_of self.entry ≡ []) × (self.entry.count ≡ 0))
+            (λ r. (pieces_of self.entry ≡ r.0.now ∷ pieces_of r.1) × (length r.0.now ≡ self.entry.width) × (r.1.width ≡ self.entry.width) × (self.entry.count ≡ r.1.count + 1)) }
+    {
+        if self.count == 0 {
+            return None;
+        }
+        let (piece, rest) = self.bytes.split_at(self.width);
+        Some((
+            piece,
+            Pieces {
+                count: self.count - 1,
+                width: self.width,
+                bytes: rest,
+            },
+        ))
+    }
+}
