@@ -1,0 +1,85 @@
+//! A run file's listing.
+
+use std::fmt;
+
+use crate::files::RunFile;
+use crate::models::House;
+use crate::refusals::Refused;
+use crate::runs::Run;
+use crate::values::{Kind, Value};
+
+/// The listing of a file that is not refused.
+pub struct Report {
+    pub kind: Kind,
+    pub house: House,
+    pub t: usize,
+    pub rounds: usize,
+    /// By controller.
+    pub held: Vec<Held>,
+}
+
+#[derive(Clone, Copy, PartialEq, Eq, Debug)]
+pub enum Held {
+    Decision(Value),
+    Nothing,
+    /// Listed as `upset`.
+    Seated,
+}
+
+/// What became of a file. Both sides print as the listing's text.
+pub type Listing = Result<Report, Refused>;
+
+pub fn list(bytes: &[u8]) -> Listing {
+    let file = RunFile::read(bytes)?;
+    let run = perform(&file)?;
+    let held = (0..file.proposals.len())
+        .map(|controller| match run.decision(controller) {
+            Some(Some(value)) => Held::Decision(value),
+            Some(None) => Held::Nothing,
+            None => Held::Seated,
+        })
+        .collect();
+    Ok(Report {
+        kind: file.kind,
+        house: file.house,
+        t: file.t,
+        rounds: file.sets.len(),
+        held,
+    })
+}
+
+fn perform(file: &RunFile) -> Result<Run, Refused> {
+    let mut run = Run::open(file.house, file.kind, file.t, &file.proposals, file.initial)?;
+    let mut lines = file.lines.iter().peekable();
+    for (number, &set) in file.sets.iter().enumerate() {
+        let mut round = run.seat(set).map_err(|refusal| refusal.in_round(number))?;
+        while let Some(line) = lines.next_if(|line| line.round == number) {
+            round
+                .forge(line.place, line.cell)
+                .map_err(|refusal| refusal.in_round(number))?;
+        }
+        round.close();
+    }
+    Ok(run)
+}
+
+pub fn text(listing: &Listing) -> String {
+    match listing {
+        Ok(report) => report.to_string(),
+        Err(refused) => refused.to_string(),
+    }
+}
+
+impl fmt::Display for Report {
+    fn fmt(&self, f: &mut fmt::Formatter) -> fmt::Result {
+        writeln!(f, "run {} {} {}", self.held.len(), self.t, self.rounds)?;
+        for (controller, held) in self.held.iter().enumerate() {
+            match held {
+                Held::Decision(value) => writeln!(f, "{controller} {value}")?,
+                Held::Nothing => writeln!(f, "{controller} none")?,
+                Held::Seated => writeln!(f, "{controller} upset")?,
+            }
+        }
+        Ok(())
+    }
+}

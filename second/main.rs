@@ -1,0 +1,86 @@
+//! The second program: run files performed by a program of its own, made from
+//! the publications and docs/FORMAT.md, and set beside the first.
+
+mod adversaries;
+mod compare;
+mod examples;
+mod faults;
+mod files;
+mod listings;
+mod makers;
+mod models;
+mod refusals;
+mod rng;
+mod runs;
+#[cfg(test)]
+mod tests;
+mod values;
+mod votes;
+
+use std::io::{self, Read, Write};
+use std::path::Path;
+use std::process::ExitCode;
+
+use compare::Comparison;
+use values::Kind;
+
+/// Enough to tell that a file is too long.
+const MOST_READ: u64 = 65_536;
+
+const USAGE: &str =
+    "second list                                   lists the run file on standard input
+second compare PROGRAM SEED COUNT [FILE..]    sets PROGRAM beside this one
+second make SEED INDEX                        writes a made file
+second examples DIR                           writes the examples
+second heaviest [setpoints|sheets]            writes the heaviest sound file";
+
+fn main() -> ExitCode {
+    let arguments: Vec<String> = std::env::args().skip(1).collect();
+    let words: Vec<&str> = arguments.iter().map(String::as_str).collect();
+    match perform(&words) {
+        Ok(true) => ExitCode::SUCCESS,
+        Ok(false) => ExitCode::from(1),
+        Err(problem) => {
+            eprintln!("second: {problem}");
+            ExitCode::from(2)
+        }
+    }
+}
+
+/// Whether all went well; an error if the command could not be performed.
+fn perform(words: &[&str]) -> Result<bool, Box<dyn std::error::Error>> {
+    match *words {
+        ["list"] => Ok(list()?),
+        ["compare", program, seed, count, ref files @ ..] => {
+            let files = files.iter().map(Into::into).collect();
+            Ok(Comparison {
+                program: program.into(),
+                seed: seed.parse()?,
+                count: count.parse()?,
+                files,
+            }
+            .run()?)
+        }
+        ["make", seed, index] => write(&makers::make(seed.parse()?, index.parse()?).bytes),
+        ["examples", folder] => {
+            examples::write_all(Path::new(folder))?;
+            Ok(true)
+        }
+        ["heaviest"] | ["heaviest", "sheets"] => write(&makers::heaviest(Kind::Sheet)),
+        ["heaviest", "setpoints"] => write(&makers::heaviest(Kind::Setpoint)),
+        _ => Err(format!("no such command\n{USAGE}").into()),
+    }
+}
+
+fn list() -> io::Result<bool> {
+    let mut bytes = Vec::new();
+    io::stdin().take(MOST_READ).read_to_end(&mut bytes)?;
+    let listing = listings::list(&bytes);
+    io::stdout().write_all(listings::text(&listing).as_bytes())?;
+    Ok(listing.is_ok())
+}
+
+fn write(bytes: &[u8]) -> Result<bool, Box<dyn std::error::Error>> {
+    io::stdout().write_all(bytes)?;
+    Ok(true)
+}
