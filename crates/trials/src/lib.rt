@@ -6,6 +6,8 @@ mod cell_tests;
 #[cfg(test)]
 mod display_tests;
 #[cfg(test)]
+mod file_tests;
+#[cfg(test)]
 mod heard_tests;
 #[cfg(test)]
 mod helpers;
