@@ -66,7 +66,7 @@ pub(crate) fn read_parts<'f, K: Kind>(
         (λ parts. (file_refusal K.rules header.now file.now ≡ None) × IsParted K.rules.width header.now file.now parts × HasRows K.rules K.plain parts rows.new)
         (λ why. file_refusal K.rules header.now file.now ≡ Some why) }
 {
-    let parts = Parts::of(file, header, K::byte_width())?;
+    let parts = Parts::of(file, header, K::WIDTH)?;
     read_proposals::<K>(parts.proposals, rows)?;
     check_lines::<K>(parts.lines, header.rounds)?;
     Ok(parts)

@@ -49,5 +49,4 @@ fn text_is_decimal_and_cut_where_room_ends(rt: HostRuntime) {
 #[test]
 fn width_is_two_bytes(rt: HostRuntime) {
     assert_eq!(rt; Setpoint::WIDTH, 2);
-    assert_eq!(rt; Setpoint::byte_width(), 2);
 }

@@ -38,7 +38,6 @@ fn eight_bytes_are_read(rt: HostRuntime) {
     );
     assert_eq!(rt; read_row::<Sheet>(&[0, 0, 0, 0, 0, 0, 0, 0, 0]), Err(24));
     assert_eq!(rt; Sheet::WIDTH, 8);
-    assert_eq!(rt; Sheet::byte_width(), 8);
 }
 
 #[test]

@@ -21,21 +21,21 @@ impl Kind for Window {
 
     const WIDTH: usize = 4;
 
+    ghost WIDTH = { window_rules.width };
+
     ghost rules = { window_rules };
 
     ghost meaning = { minutes_of };
 
     ghost plain = { λ r. r.0 ∷ r.1 ∷ [] };
 
+    ghost wide = { Prim.search rules };
+
     ghost kept = { Prim.search rules };
 
     ghost falls = { Prim.search rules };
 
     ghost sized = { Prim.search rules };
-
-    fn byte_width() -> usize {
-        Self::WIDTH
-    }
 
     fn fallback() -> Window {
         Window {

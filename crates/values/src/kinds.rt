@@ -16,8 +16,11 @@ pub trait Kind: Sized + Drop {
     /// A value as it lies in a cell: plain numbers, under no rule.
     type Row: Copy;
 
-    /// The width of a value in bytes. Clauses and generic code go by `byte_width`, which is tied to the rules.
+    /// The width of a value in bytes.
     const WIDTH: usize;
+
+    // the constant, for clauses and laws
+    ghost WIDTH: { ℕ };
 
     // the rule, the fallback and the width
     ghost rules: { Rules };
@@ -27,11 +30,6 @@ pub trait Kind: Sized + Drop {
 
     // the plain numbers of a row
     ghost plain: { Self.Row → List ℕ };
-
-    /// The width of a value in bytes.
-    // No body here: it could only answer `WIDTH`, and would need a tie of that to the rules, which no kind owes.
-    fn byte_width() -> usize
-        ensures { result ≡ rules.width };
 
     /// The value that a row which breaks the rule stands for.
     fn fallback() -> Self
@@ -75,6 +73,9 @@ pub trait Kind: Sized + Drop {
     // Not `Display`, for the reason that stands at `Buffer`.
     fn write(&self, out: &mut Buffer)
         ensures { Puts out.old (text (meaning self.now)) out.new };
+
+    // the constant is the width of the rules, so generic code may go by it
+    ghost wide: { WIDTH ≡ rules.width };
 
     // every value keeps the rule
     ghost kept: { (v : Self) → rules.allowed (meaning v) ≡ true };

@@ -41,21 +41,21 @@ impl Kind for Setpoint {
 
     const WIDTH: usize = 2;
 
+    ghost WIDTH = { setpoint_rules.width };
+
     ghost rules = { setpoint_rules };
 
     ghost meaning = { tenths_of };
 
     ghost plain = { λ r. r ∷ [] };
 
+    ghost wide = { Prim.search rules };
+
     ghost kept = { Prim.search rules };
 
     ghost falls = { Prim.search rules };
 
     ghost sized = { Prim.search rules };
-
-    fn byte_width() -> usize {
-        Self::WIDTH
-    }
 
     fn fallback() -> Setpoint {
         Setpoint { tenths: 400 }

@@ -45,21 +45,21 @@ impl Kind for Sheet {
 
     const WIDTH: usize = 8;
 
+    ghost WIDTH = { sheet_rules.width };
+
     ghost rules = { sheet_rules };
 
     ghost meaning = { shares_of };
 
     ghost plain = { plain_shares };
 
+    ghost wide = { Prim.search rules };
+
     ghost kept = { Prim.search rules };
 
     ghost falls = { Prim.search rules };
 
     ghost sized = { Prim.search rules };
-
-    fn byte_width() -> usize {
-        Self::WIDTH
-    }
 
     fn fallback() -> Sheet {
         Sheet {
