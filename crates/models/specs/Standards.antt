@@ -1,11 +1,12 @@
 -- The five models, one row of a table for each. Assumes nothing.
-use Rattle.std.specs.Prelude.{◌≡◌, ℕ, ◌*◌, min, Bool, true, if◌then◌else◌, List, [], ◌∷◌, Some, None, Option, Result, MatchOption, ◌==◌, ◌≢◌}
+use Rattle.std.specs.Prelude.{◌≡◌, ℕ, ◌*◌, min, Bool, true, if◌then◌else◌, List, [], ◌∷◌, Some, None, Option, Result, MatchOption, ◌==◌, ◌≢◌, slice_index_or}
 use Rattle.std.specs.Option.{ok_or}
 use Rattle.std.specs.Result.{result_ok}
 use Rattle.models.specs.declared.classes.Class.{Class}
 use Rattle.models.specs.declared.classes.Class.TheVariants.{Honest, Silent, Uniform, Free}
 use Rattle.models.specs.declared.classes.Counts.{Counts}
 use Rattle.models.specs.declared.standards.Standard.{Standard}
+use Rattle.models.specs.declared.standards.TheConstants.{MULTIPLES}
 use Rattle.models.specs.declared.standards.UnknownModel.{UnknownModel}
 use Rattle.models.specs.declared.standards.Standard.TheVariants.{Aware, Unaware, Buffered, Carried, Fixed}
 use Rattle.models.specs.Sets.{has}
@@ -27,22 +28,27 @@ any_move before now = true
 abbrev same_set : ℕ → ℕ → Bool
 same_set before now = before == now
 
-abbrev row : ℕ → (ℕ → ℕ → Bool) → Class → Class → Class → ℕ → ℕ → ℕ → Entry
-row code moves both now_only before_only b e l = record {
+-- what a code past the table has, which is no model's
+abbrev past_table : Counts
+past_table = record { b = 0; e = 0; l = 0 }
+
+-- the multiples are those of the code, in its constant table
+abbrev row : ℕ → (ℕ → ℕ → Bool) → Class → Class → Class → Entry
+row code moves both now_only before_only = record {
   code = code;
   moves = moves;
   in_both = both;
   in_now_only = now_only;
   in_before_only = before_only;
-  times = record { b = b; e = e; l = l };
+  times = slice_index_or MULTIPLES code past_table;
 }
 
 abbrev pub entry : Standard → Entry
-entry Aware = row 0 any_move Free Free Silent 2 1 1
-entry Unaware = row 1 any_move Free Free Uniform 2 1 2
-entry Buffered = row 2 any_move Free Free Free 2 2 2
-entry Carried = row 3 any_move Free Honest Free 1 1 1
-entry Fixed = row 4 same_set Free Free Free 1 1 1
+entry Aware = row 0 any_move Free Free Silent
+entry Unaware = row 1 any_move Free Free Uniform
+entry Buffered = row 2 any_move Free Free Free
+entry Carried = row 3 any_move Free Honest Free
+entry Fixed = row 4 same_set Free Free Free
 
 abbrev pub code_of : Standard → ℕ
 code_of s = (entry s).code

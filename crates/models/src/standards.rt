@@ -23,7 +23,7 @@ pub enum Standard {
     Fixed = 4,
 }
 
-// How many times t the counts of each model are, by its code. A constant table, since the rules have it as one.
+// How many times t the counts of each model are, by its code. The definitions read this table, so its numbers stand once.
 const MULTIPLES: [Counts; 5] = [
     Counts { b: 2, e: 1, l: 1 },
     Counts { b: 2, e: 1, l: 2 },
