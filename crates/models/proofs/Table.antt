@@ -1,13 +1,14 @@
--- The models of the table are lawful.
-use Rattle.std.proofs.Common.{◌≡◌, ℕ, ◌+◌, ◌*◌, ◌≤◌, min, Bool, true, sym, ap, ◌∙◌, subst, ap₂, arith, eqb-true}
+-- The models of the table are lawful, and reach their counts.
+use Rattle.std.proofs.Common.{◌≡◌, ℕ, ◌+◌, ◌*◌, ◌≤◌, min, Bool, true, T, leb, sym, ap, ◌∙◌, subst, ap₂, refl, arith, eqb-true, lit<, le_trans, mul-le-mul_right}
+use Rattle.std.proofs.Math.Dec.{lit≤}
 use Rattle.std.proofs.lemmas.Bool.Decides.{nat_tests}
 use Rattle.values.specs.Counting.{tick, count}
 use Rattle.models.specs.declared.classes.Class.{Class}
 use Rattle.models.specs.declared.classes.Class.TheVariants.{Honest}
 use Rattle.models.specs.declared.standards.Standard.{Standard}
 use Rattle.models.specs.declared.standards.Standard.TheVariants.{Aware, Unaware, Buffered, Carried, Fixed}
-use Rattle.models.specs.Sets.{has}
-use Rattle.models.specs.Laws.{Move, Lawful, faulty, free, forging}
+use Rattle.models.specs.Sets.{has, members}
+use Rattle.models.specs.Laws.{Few, Move, Lawful, Reached, faulty, free, forging}
 use Rattle.models.specs.Standards.{entry, class_in, standard}
 use Rattle.models.proofs.Bounds.{at_most}
 
@@ -23,19 +24,21 @@ Three s before now t =
     let most = (standard s).counts t in
     (count (λ i. faulty (r i)) 16 ≤ most.b) × (count (λ i. free (r i)) 16 ≤ most.e) × (count (λ i. forging (r i)) 16 ≤ most.l)
 
--- the controllers whose class passes q, at most x for one that was in the set before and y for one that is in the set now
+-- the controllers whose class passes q are at most `most` times t: x for one that was in the set before, and y for one that is in the set now
 module _ (c : Bool → Bool → Class) {m : ℕ → ℕ → ℕ → Bool} {before now t : ℕ} (v : Move m before now t) where
-  abbrev by : (q : Class → Bool) (x y : ℕ) → ((was is : Bool) → tick (q (c was is)) ≤ x * tick was + y * tick is) → count (λ i. q (c (has before i) (has now i))) 16 ≤ (x + y) * min t 15
-  by q x y each = at_most (λ i. q (c (has before i) (has now i))) x y v (λ i _. each (has before i) (has now i))
+  abbrev by : (q : Class → Bool) (x y most : ℕ) → T (leb (x + y) most) → ((was is : Bool) → tick (q (c was is)) ≤ x * tick was + y * tick is)
+      → count (λ i. q (c (has before i) (has now i))) 16 ≤ most * min t 15
+  by q x y most enough each =
+      le_trans (at_most (λ i. q (c (has before i) (has now i))) x y v (λ i _. each (has before i) (has now i))) (mul-le-mul_right (min t 15) (lit≤ enough))
 
 three : (s : Standard) {before now t : ℕ} → Move (standard s).allowed before now t → Three s before now t
-three Aware v = let k = by (class_in (entry Aware)) v in (k faulty 1 1 (λ a b. grind arith), k free 0 1 (λ a b. grind arith), k forging 0 1 (λ a b. grind arith))
-three Unaware v = let k = by (class_in (entry Unaware)) v in (k faulty 1 1 (λ a b. grind arith), k free 0 1 (λ a b. grind arith), k forging 1 1 (λ a b. grind arith))
-three Buffered v = let k = by (class_in (entry Buffered)) v in (k faulty 1 1 (λ a b. grind arith), k free 1 1 (λ a b. grind arith), k forging 1 1 (λ a b. grind arith))
-three Carried v = let k = by (class_in (entry Carried)) v in (k faulty 1 0 (λ a b. grind arith), k free 1 0 (λ a b. grind arith), k forging 1 0 (λ a b. grind arith))
+three Aware v = let k = by (class_in (entry Aware)) v in (k faulty 1 1 _ tt (λ a b. grind arith), k free 0 1 _ tt (λ a b. grind arith), k forging 0 1 _ tt (λ a b. grind arith))
+three Unaware v = let k = by (class_in (entry Unaware)) v in (k faulty 1 1 _ tt (λ a b. grind arith), k free 0 1 _ tt (λ a b. grind arith), k forging 1 1 _ tt (λ a b. grind arith))
+three Buffered v = let k = by (class_in (entry Buffered)) v in (k faulty 1 1 _ tt (λ a b. grind arith), k free 1 1 _ tt (λ a b. grind arith), k forging 1 1 _ tt (λ a b. grind arith))
+three Carried v = let k = by (class_in (entry Carried)) v in (k faulty 1 0 _ tt (λ a b. grind arith), k free 1 0 _ tt (λ a b. grind arith), k forging 1 0 _ tt (λ a b. grind arith))
 three Fixed {before} {now} {t} v =
     let k = by (λ a _. class_in (entry Fixed) a a) v in
-    subst (λ (n : ℕ). Three Fixed before n t) (eqb-true before now v.may) (k faulty 1 0 (λ a b. grind arith), k free 1 0 (λ a b. grind arith), k forging 1 0 (λ a b. grind arith))
+    subst (λ (n : ℕ). Three Fixed before n t) (eqb-true before now v.may) (k faulty 1 0 _ tt (λ a b. grind arith), k free 1 0 _ tt (λ a b. grind arith), k forging 1 0 _ tt (λ a b. grind arith))
 
 pub table_lawful : (s : Standard) → Lawful (standard s)
 table_lawful s = record {
@@ -48,3 +51,19 @@ table_lawful s = record {
   };
   stays = λ set t _. same_allowed s set;
 }
+
+-- what reaches the counts: one fault that moves from controller 0 to controller 1, or where it cannot move stays at 0
+few : Few 1 1 × Few 2 1
+unfolding members count
+few = (record { bits = lit< tt; few = omega arith }, record { bits = lit< tt; few = omega arith })
+
+moves : {allowed : ℕ → ℕ → ℕ → Bool} → allowed 1 2 1 ≡ true → Move allowed 1 2 1
+moves may = record { from = few.0; to = few.1; may = may }
+
+pub reached : (s : Standard) → Reached (standard s)
+unfolding count
+reached Aware = record { before = 1; now = 2; move = moves refl; faults = refl; frees = refl; forgers = refl }
+reached Unaware = record { before = 1; now = 2; move = moves refl; faults = refl; frees = refl; forgers = refl }
+reached Buffered = record { before = 1; now = 2; move = moves refl; faults = refl; frees = refl; forgers = refl }
+reached Carried = record { before = 1; now = 2; move = moves refl; faults = refl; frees = refl; forgers = refl }
+reached Fixed = record { before = 1; now = 1; move = record { from = few.0; to = few.0; may = refl }; faults = refl; frees = refl; forgers = refl }

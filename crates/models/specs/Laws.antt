@@ -70,3 +70,12 @@ pub record Lawful (m : Meaning) : Type 0 where
   pub keeps : (before now t : ℕ) → Move m.allowed before now t → Kept (m.class before now t) (m.counts t) before now
   -- 4. a move from a set to the same set is allowed
   pub stays : (set t : ℕ) → Few set t → m.allowed set set t ≡ true
+
+-- no count is more than it must be: at t = 1 an allowed move reaches all three
+pub record Reached (m : Meaning) : Type 0 where
+  pub before : ℕ
+  pub now : ℕ
+  pub move : Move m.allowed before now 1
+  pub faults : count (λ i. faulty (m.class before now 1 i)) 16 ≡ (m.counts 1).b
+  pub frees : count (λ i. free (m.class before now 1 i)) 16 ≡ (m.counts 1).e
+  pub forgers : count (λ i. forging (m.class before now 1 i)) 16 ≡ (m.counts 1).l

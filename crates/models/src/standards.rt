@@ -1,4 +1,5 @@
 ghost use Rattle.std.specs.Prelude.{◌≡◌, ◌++◌, Some, decimal, codes};
+ghost use Rattle.models.specs.Laws.{Reached};
 ghost use Rattle.models.specs.Standards.{code_of, Decodes, standard};
 ghost use Rattle.std.proofs.Common.{rules};
 
@@ -114,3 +115,9 @@ impl FaultModel for Standard {
 impl LawfulModel for Standard {
     fn lawful(&self) {}
 }
+
+/// No count of a model is more than it must be: a move of one fault reaches all three.
+// The laws allow no less, so this and they fix the table.
+pub fn counts_are_reached(model: Standard)
+    ensures { Reached (standard model) }
+{}
