@@ -51,9 +51,13 @@ unfoldable pub passes : (List ℕ → Bool) → Held → Bool
 passes q None = false
 passes q (Some v) = q v
 
--- a value qualifies with so many holders at least, and so many cells filled otherwise at most
+-- so many holders at least, and so many cells filled otherwise at most
+abbrev pub meets : (least most held otherwise : ℕ) → Bool
+meets least most held otherwise = nat_le least held && nat_le otherwise most
+
+-- a value qualifies where its counts meet the two bounds
 abbrev pub qualifies : ℕ → ℕ → (ℕ → Held) → ℕ → List ℕ → Bool
-qualifies least most cells n v = nat_le least (holders cells n v) && nat_le (others cells n v) most
+qualifies least most cells n v = meets least most (holders cells n v) (others cells n v)
 
 -- whether place i is filled with a value that qualifies
 abbrev pub qualifying : ℕ → ℕ → (ℕ → Held) → ℕ → ℕ → Bool

@@ -1,7 +1,7 @@
 ghost use Rattle.std.specs.Prelude.{◌≡◌, length, IsTrue, ◌↔◌};
 ghost use Rattle.values.specs.Rules.{means};
 ghost use Rattle.values.specs.Counting.{IsLowest};
-ghost use Rattle.values.specs.Cells.{shows, seen, holders, others, passes, qualifies, qualifying, winning};
+ghost use Rattle.values.specs.Cells.{shows, seen, holders, others, meets, passes, qualifies, qualifying, winning};
 
 use crate::kinds::Kind;
 
@@ -13,6 +13,16 @@ pub type Cell<R> = Option<R>;
 pub struct Quorum {
     pub at_least: usize,
     pub otherwise_at_most: usize,
+}
+
+impl Quorum {
+    /// Whether a value's counts meet it: how many cells hold the value, and how many are filled otherwise.
+    pub fn is_met(self, counts: (usize, usize)) -> bool
+        ensures { result ≡ meets self.at_least self.otherwise_at_most counts.0 counts.1 }
+    {
+        let (held, otherwise) = counts;
+        held >= self.at_least && otherwise <= self.otherwise_at_most
+    }
 }
 
 // Clauses name `K.rules` with `K.plain`, and cells with their number. A member for what a row means would be no plainer:
@@ -48,10 +58,7 @@ pub fn tally<K: Kind>(cells: &[Cell<K::Row>], row: &K::Row) -> (usize, usize)
 fn qualifies<K: Kind>(cells: &[Cell<K::Row>], cell: &Cell<K::Row>, quorum: Quorum) -> bool
     ensures { result ≡ passes (qualifies quorum.at_least quorum.otherwise_at_most (seen K.rules K.plain cells.now) (length cells.now)) (shows K.rules K.plain cell.now) }
 {
-    cell.is_some_and(|row| {
-        let (held, otherwise) = tally::<K>(cells, &row);
-        held >= quorum.at_least && otherwise <= quorum.otherwise_at_most
-    })
+    cell.is_some_and(|row| quorum.is_met(tally::<K>(cells, &row)))
 }
 
 /// The lowest place whose value qualifies.
