@@ -1,5 +1,6 @@
 -- A set's bits and their number.
-use Rattle.std.proofs.Common.{◌≡◌, ℕ, zero, suc, ◌+◌, ◌*◌, ◌/◌, ◌%◌, ◌^◌, ◌<◌, eqb, sym, refl, ap, ◌∙◌, ap₂, mod-lt, mod-eq_of_lt, one-add, arith, lit<, pow_pos}
+use Rattle.std.proofs.Common.{◌≡◌, ℕ, zero, suc, ◌+◌, ◌*◌, ◌/◌, ◌%◌, ◌^◌, ◌<◌, false, eqb, sym, refl, ap, ◌∙◌, ap₂, mod-lt, mod-eq_of_lt, one-add, arith, lit<, pow_pos}
+use Rattle.std.proofs.Math.Nat.{zero-div}
 use lib.Count.{ones, ones_cat, ones-le}
 use lib.Pow.{mod-pow-add}
 use Rattle.values.specs.Counting.{tick, count}
@@ -22,3 +23,7 @@ counted x (suc k) =
 pub ones-members : (x : ℕ) → x < 2 ^ 16 → ones x ≡ members x
 unfolding members
 ones-members x h = ap ones (sym (mod-eq_of_lt h)) ∙ counted x 16
+
+-- the empty set has nobody
+pub has_none : (i : ℕ) → has 0 i ≡ false
+has_none i = rw zero-div
