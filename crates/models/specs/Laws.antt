@@ -71,7 +71,7 @@ pub record Lawful (m : Meaning) : Type 0 where
   -- 4. a move from a set to the same set is allowed
   pub stays : (set t : ℕ) → Few set t → m.allowed set set t ≡ true
 
--- no count is more than it must be: at t = 1 an allowed move reaches all three
+-- at t = 1 an allowed move reaches all three counts
 pub record Reached (m : Meaning) : Type 0 where
   pub before : ℕ
   pub now : ℕ

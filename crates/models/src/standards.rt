@@ -116,7 +116,7 @@ impl LawfulModel for Standard {
     fn lawful(&self) {}
 }
 
-/// No count of a model is more than it must be: a move of one fault reaches all three.
+/// No multiple in the table is more than it must be: a move of one fault reaches all three counts of its model.
 // The laws allow no less, so this and they fix the table.
 pub fn counts_are_reached(model: Standard)
     ensures { Reached (standard model) }
