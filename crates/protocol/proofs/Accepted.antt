@@ -1,5 +1,5 @@
 -- What it says of a set that a call which takes it was not refused, and what lawful models then answer.
-use Rattle.std.proofs.Common.{◌≡◌, ℕ, ◌+◌, ◌/◌, ◌^◌, ◌<◌, ◌≤◌, Bool, true, false, List, None, sym, ap, ◌∙◌, arith}
+use Rattle.std.proofs.Common.{◌≡◌, ℕ, ◌+◌, ◌/◌, ◌^◌, ◌<◌, ◌≤◌, Bool, true, false, List, length, None, sym, ap, ◌∙◌, arith}
 use Rattle.std.proofs.lemmas.Bool.Decides.{nat_tests}
 use Rattle.std.proofs.Math.Pow.{pow_mono}
 use Rattle.std.proofs.Math.Nat.{div-lt_iff_lt-mul}
@@ -9,7 +9,7 @@ use Rattle.models.specs.declared.classes.Class.{Class}
 use Rattle.models.specs.declared.classes.Counts.{Counts}
 use Rattle.models.specs.Sets.{has, members}
 use Rattle.models.specs.Laws.{faulty, free, forging, Meaning, Few, Move, Kept}
-use Rattle.protocol.specs.Machine.{Setting, Block, misfits, open_refusal, seat_refusal, decision_refusal}
+use Rattle.protocol.specs.Machine.{Setting, Block, needed, misfits, open_refusal, seat_refusal, decision_refusal}
 use Rattle.protocol.proofs.Counting.{count_mono, count_within}
 use Rattle.protocol.proofs.Hearing.{Behave}
 
@@ -21,18 +21,29 @@ fits n t set small lt e =
     }
 
 -- what an accepted open says
-pub record Opens (m : Meaning) (n t initial : ℕ) : Type 0 where
+pub record Opens (x : Setting) (m : Meaning) (n t : ℕ) (offered : List (List ℕ)) (initial : ℕ) : Type 0 where
   pub some : 1 ≤ n
   pub small : n ≤ 16
   pub faults : t < n
   pub big : (m.counts t).b + (m.counts t).e + (m.counts t).l < n
+  pub cells : needed n ≤ x.cells
+  pub proposals : length offered ≡ n
+  pub initial_fits : misfits n t initial ≡ false
   pub initial_few : Few initial t
 
-pub open_accepted : (x : Setting) (m : Meaning) (n t : ℕ) (proposals : List (List ℕ)) (initial : ℕ) → open_refusal x m n t proposals initial ≡ None → Opens m n t initial
+pub open_accepted : (x : Setting) (m : Meaning) (n t : ℕ) (proposals : List (List ℕ)) (initial : ℕ) → open_refusal x m n t proposals initial ≡ None → Opens x m n t proposals initial
 open_accepted x m n t proposals initial e =
     let sized : (1 ≤ n) × (n ≤ 16) × (t < n) × ((m.counts t).b + (m.counts t).e + (m.counts t).l < n) = grind (arith, nat_tests) in
-    let few : misfits n t initial ≡ false = grind (arith, nat_tests) in
-    record { some = sized.0; small = sized.1; faults = sized.2; big = sized.3; initial_few = fits n t initial sized.1 sized.2 few }
+    let given : (needed n ≤ x.cells) × (length proposals ≡ n) × (misfits n t initial ≡ false) = grind (arith, nat_tests) in record {
+      some = sized.0;
+      small = sized.1;
+      faults = sized.2;
+      big = sized.3;
+      cells = given.0;
+      proposals = given.1;
+      initial_fits = given.2;
+      initial_few = fits n t initial sized.1 sized.2 given.2;
+    }
 
 -- what an accepted seat says
 pub seat_accepted : (m : Meaning) (b : Block) (set : ℕ) → b.n ≤ 16 → b.t < b.n → seat_refusal m b set ≡ None → Few b.last b.t → Move m.allowed b.last set b.t

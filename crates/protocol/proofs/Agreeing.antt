@@ -49,7 +49,7 @@ module _ (x : Setting) (m : Meaning) (o : Opening) (all : ℕ → ℕ) (rounds :
   block_is (suc r) = later_end x m start all forged r ∙ ap (λ (b : Block). closed x b (during m b (all r) (forged r))) (block_is r)
 
 module _ (x : Setting) (m : Meaning) (law : Lawful m) (o : Opening) (calls : Transcript) (started : Started x m o calls) where
-  opens : Opens m o.n o.t o.initial
+  opens : Opens x m o.n o.t o.proposals o.initial
   opens = open_accepted x m o.n o.t o.proposals o.initial started.accepted_open
 
   abbrev rounds : ℕ
@@ -122,7 +122,7 @@ module _ (x : Setting) (m : Meaning) (law : Lawful m) (o : Opening) (calls : Tra
 
   agrees : Agrees m calls o
   unfolding coordinator_of kept
-  agrees = record { equal = equal; filled = filled; valid = valid }
+  agrees = record { equal = equal; filled = filled; early = empty; valid = valid }
     where
       by_coordinator : (c : ℕ) → Clean calls o c → (w : List ℕ) × ((r : ℕ) → 3 * o.n ≤ suc r → r < rounds → Decide this r w)
       by_coordinator c clean = agreed this rules c clean.controller clean.controller clean.collecting clean.deciding
@@ -133,6 +133,9 @@ module _ (x : Setting) (m : Meaning) (law : Lawful m) (o : Opening) (calls : Tra
       filled : (c : ℕ) → Clean calls o c → (i : ℕ) (cell : Held) → answered calls i ≡ Some cell → 3 * o.n ≤ closes (take i calls) → Filled cell
       filled c clean i cell e ge =
           let a = by_coordinator c clean in (a.0, late a.0 a.1 (closes (take i calls)) cell ge (started.rounds.within i) (answer i cell e))
+
+      empty : (i : ℕ) (cell : Held) → answered calls i ≡ Some cell → closes (take i calls) < 3 * o.n → cell ≡ None
+      empty i cell e lt = let a = answer i cell e in a.is ∙ early this fresh (closes (take i calls)) a.controller lt
 
       valid : (w : List ℕ) → ((i : ℕ) → i < o.n → HonestAtStart m calls o i → Proposed o i w) → (i : ℕ) (v : List ℕ) → answered calls i ≡ Some (Some v) → v ≡ w
       valid w proposed i v e = ⊎_elim begun unbegun (cases_lt 0 rounds)

@@ -1,5 +1,6 @@
 -- From calls to rounds: what a list of calls on an opened block comes to, whatever was refused in between.
-use Rattle.std.proofs.Common.{◌≡◌, ℕ, zero, suc, ◌+◌, ◌<◌, ◌≤◌, cond, List, [], ◌∷◌, ◌++◌, length, take, Some, None, Option, slice_index, refl, subst, arith}
+use Rattle.std.specs.Option.{option_or}
+use Rattle.std.proofs.Common.{◌≡◌, ℕ, zero, suc, ◌+◌, ◌<◌, ◌≤◌, List, [], ◌∷◌, ◌++◌, length, take, Some, None, Option, slice_index, refl, sym, ap, ◌∙◌, subst, arith}
 use Rattle.values.specs.declared.refusals.Refusal.{Refusal}
 use Rattle.values.specs.declared.refusals.Refusal.TheVariants.{OutOfTurn}
 use Rattle.values.specs.Cells.{Held}
@@ -33,7 +34,8 @@ use Rattle.protocol.specs.Machine.{
   unless,
   step,
 }
-use Rattle.protocol.specs.Transcripts.{Entry, Transcript, accepted, Opening, closes_in, cell_in, opening, sets, closes, answered, transcript}
+use Rattle.protocol.specs.Transcripts.{Entry, Transcript, Opening, closes_in, cell_in, opening, sets, closes, answered, transcript}
+use Rattle.protocol.proofs.Joined.{refused_adds}
 
 abbrev pub Forged : Type 0
 Forged = ℕ → ℕ → ℕ → Held
@@ -81,7 +83,7 @@ module _ (x : Setting) (m : Meaning) where
       legal (suc k) lt = absurd (omega arith)
 
   -- a call before them that closes nothing and answers no decision
-  before : (b : Block) (all : List ℕ) (e : Entry) (calls : Transcript) → cond (accepted e.answer) (closes_in e.call) 0 ≡ 0 → cell_in e.answer ≡ None
+  before : (b : Block) (all : List ℕ) (e : Entry) (calls : Transcript) → closes_in e.call e.answer ≡ 0 → cell_in e.call e.answer ≡ None
       → ComesTo x m b all calls → ComesTo x m b all (e ∷ calls)
   before b all e calls none quiet f = record { forged = f.forged; legal = f.legal; within = within; asked = asked }
     where
@@ -150,7 +152,10 @@ module _ (x : Setting) (m : Meaning) where
   module _ (calls : List Call) (waiting_on : FromWaiting calls) (seated_on : FromSeated calls) where
     turned_waiting : (b : Block) (c : Call) (why : Refusal) → After b [] c (Waiting b, Refused why) calls
     turned_waiting b c why =
-        let t = transcript x m (Waiting b) calls in before b (sets t) (record { call = c; answer = Refused why }) t refl refl (waiting_on b)
+        let t = transcript x m (Waiting b) calls in
+        let none = refused_adds c why in
+        let e : Entry = record { call = c; answer = Refused why } in
+        subst (λ added. ComesTo x m b (added ++ sets t) (e ∷ t)) (sym none.seats) (before b (sets t) e t none.closes none.decides (waiting_on b))
 
     waiting_first : (c : Call) → FromWaiting (c ∷ calls)
     waiting_first (Open n t proposals initial) b = turned_waiting b (Open n t proposals initial) OutOfTurn
@@ -173,7 +178,9 @@ module _ (x : Setting) (m : Meaning) where
       turned_seated : (c : Call) (why : Refusal) → After b (set ∷ []) c (Seated b (during m b set forged), Refused why) calls
       turned_seated c why =
           let t = transcript x m (Seated b (during m b set forged)) calls in
-          before b (set ∷ sets t) (record { call = c; answer = Refused why }) t refl refl (seated_on b set forged may)
+          let none = refused_adds c why in
+          let e : Entry = record { call = c; answer = Refused why } in
+          subst (λ added. ComesTo x m b (set ∷ (added ++ sets t)) (e ∷ t)) (sym none.seats) (before b (set ∷ sets t) e t none.closes none.decides (seated_on b set forged may))
 
       seated_first : (c : Call) → let t = transcript x m (Seated b (during m b set forged)) (c ∷ calls) in ComesTo x m b (set ∷ sets t) t
       seated_first (Open n t proposals initial) = turned_seated (Open n t proposals initial) OutOfTurn
@@ -216,10 +223,13 @@ module _ (x : Setting) (m : Meaning) where
   module _ (calls : List Call) (idle_on : FromIdle calls) where
     turned_idle : (c : Call) (why : Refusal) → StartedBy c (Idle, Refused why) calls
     turned_idle c why o e =
-        let s = idle_on o e in
-        let t = transcript x m Idle calls in record {
+        let t = transcript x m Idle calls in
+        let none = refused_adds c why in
+        let s = idle_on o (sym (ap (λ added. option_or added (opening t)) none.opens) ∙ e) in
+        let b = opened m o.n o.t o.proposals o.initial in
+        let first : Entry = record { call = c; answer = Refused why } in record {
           accepted_open = s.accepted_open;
-          rounds = before (opened m o.n o.t o.proposals o.initial) (sets t) (record { call = c; answer = Refused why }) t refl refl s.rounds;
+          rounds = subst (λ added. ComesTo x m b (added ++ sets t) (first ∷ t)) (sym none.seats) (before b (sets t) first t none.closes none.decides s.rounds);
         }
 
     idle_first : (c : Call) → FromIdle (c ∷ calls)
@@ -251,8 +261,8 @@ module _ (x : Setting) (m : Meaning) where
 
   module _ (calls : List Call) (idle_on : opening (transcript x m Idle calls) ≡ None → (i : ℕ) → answered (transcript x m Idle calls) i ≡ None) where
     quiet_turned : (c : Call) (why : Refusal) → QuietBy c (Idle, Refused why) calls
-    quiet_turned c why e zero = refl
-    quiet_turned c why e (suc i) = idle_on e i
+    quiet_turned c why e zero = (refused_adds c why).decides
+    quiet_turned c why e (suc i) = idle_on (sym (ap (λ added. option_or added (opening (transcript x m Idle calls))) (refused_adds c why).opens) ∙ e) i
 
     quiet_first : (c : Call) → QuietBy c (step x m Idle c) calls
     quiet_first (Open n t proposals initial) = go (open_refusal x m n t proposals initial)

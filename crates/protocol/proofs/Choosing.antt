@@ -61,8 +61,5 @@ module _ (least : ℕ) (cells : ℕ → Held) (n : ℕ) where
   pub held_least : (x : List ℕ) → held_by least cells n ≡ Some x → least ≤ holders cells n x
   held_least x e = (chosen_qualifies least n cells n x e).0
 
-  pub held_none : 1 ≤ least → held_by least cells n ≡ None → (x : List ℕ) → least ≤ holders cells n x → ⊥
-  held_none pos e x h = none_qualifies least n cells n pos e x (enough x h)
-
   pub held_only : 1 ≤ least → (x : List ℕ) → least ≤ holders cells n x → ((y : List ℕ) → least ≤ holders cells n y → y ≡ x) → held_by least cells n ≡ Some x
   held_only pos x h only = chosen_only least n cells n pos x (enough x h) (λ y q. only y q.0)

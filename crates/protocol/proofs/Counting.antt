@@ -1,5 +1,5 @@
 -- Laws of counting that compare tests place by place.
-use Rattle.std.proofs.Common.{◌≡◌, ℕ, zero, suc, ◌+◌, ◌<◌, ◌≤◌, Bool, true, false, ◌⊎◌, ⊎_elim, arith}
+use Rattle.std.proofs.Common.{◌≡◌, ℕ, zero, suc, ◌+◌, ◌<◌, ◌≤◌, Bool, true, false, ◌⊎◌, ⊎_elim, refl, arith}
 use Rattle.std.proofs.lemmas.Bool.{cases_lt}
 use Rattle.values.specs.Counting.{count}
 
@@ -20,6 +20,12 @@ pub count_mono : (p q : ℕ → Bool) (n : ℕ) → ((i : ℕ) → i < n → p i
 unfolding count
 count_mono p q zero each = omega arith
 count_mono p q (suc n) each = let rest = count_mono p q n (λ i lt. each i (omega arith)) in grind arith
+
+-- where two tests say the same of each place, as many pass
+pub count_same : (p q : ℕ → Bool) (n : ℕ) → ((i : ℕ) → i < n → p i ≡ q i) → count p n ≡ count q n
+unfolding count
+count_same p q zero each = refl
+count_same p q (suc n) each = let rest = count_same p q n (λ i lt. each i (omega arith)) in let here = each n (omega arith) in grind arith
 
 -- more places pass p than q, so one passes p and not q
 pub count_witness : (p q : ℕ → Bool) (n : ℕ) → count q n < count p n → (i : ℕ) × (i < n) × (p i ≡ true) × (q i ≡ false)

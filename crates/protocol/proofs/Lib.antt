@@ -3,10 +3,14 @@ mod Choosing
 mod Hearing
 mod Phase
 mod Course
-mod Accepted
+pub mod Accepted
+pub mod Joined
 mod Calls
 mod Agreeing
 mod Comparing
+mod AnyRounds
 mod Published
+mod AfterCalls
+mod Rounding
 mod Working
 mod Showing

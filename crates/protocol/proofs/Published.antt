@@ -1,25 +1,21 @@
--- The three comparisons, assembled from those of each kind of round.
-use Rattle.std.proofs.Common.{◌≡◌, ℕ, zero, suc, ◌+◌, ◌-◌, ◌*◌, ◌/◌, ◌%◌, ◌<◌, ◌≤◌, min, false, ⊎_elim, refl, sym, ap, ◌∙◌, subst, mod-eq_of_lt, arith}
-use Rattle.std.proofs.lemmas.Bool.{cases_lt}
-use Rattle.std.proofs.lemmas.Bool.Decides.{nat_tests}
-use Rattle.values.specs.Cells.{Held}
+-- The published rounds are the round under their counts, and so are the closes of blocks with the counts of their models.
+use Rattle.std.proofs.Common.{◌≡◌, ℕ, ◌+◌, ◌-◌, ◌*◌, ◌<◌, ◌≤◌, ◌↔◌, min, List, Some, None, is_none, inl, inr, refl, sym, ap, ◌∙◌, subst, mod-eq_of_lt, arith}
+use Rattle.values.specs.Cells.{Held, holds}
 use Rattle.models.specs.declared.classes.Counts.{Counts}
-use Rattle.models.specs.Sets.{has}
+use Rattle.models.specs.declared.standards.Standard.TheVariants.{Aware, Unaware, Carried}
 use Rattle.models.specs.Laws.{Meaning}
-use Rattle.protocol.specs.declared.stages.Stage.{Stage}
-use Rattle.protocol.specs.declared.stages.Stage.TheVariants.{Proposing, Collecting, Deciding, Maintaining}
-use Rattle.protocol.specs.Stages.{stage_of, coordinator_of}
-use Rattle.protocol.specs.Rounds.{Memory, sends, make, candidate, settled, decided, proposed}
-use Rattle.protocol.specs.Machine.{Setting, Block, Seating, terms_of, closed}
+use Rattle.models.specs.Standards.{standard}
+use Rattle.models.specs.Stamps.{stamped}
+use Rattle.protocol.specs.Rounds.{Memory}
 use Rattle.protocol.specs.Publications.{
+  Algorithm,
   #,
   #⊥,
   IfAny,
+  IfAnyElse,
   Sending,
   SendValue,
-  SendTuple,
   Decide1,
-  Return1,
   Algorithm1,
   Proposing1,
   Collecting1,
@@ -29,7 +25,6 @@ use Rattle.protocol.specs.Publications.{
   Propose2,
   Propose3,
   Decide2,
-  Settle2,
   MBA_TMC,
   Proposing2,
   Collecting2,
@@ -39,209 +34,187 @@ use Rattle.protocol.specs.Publications.{
   Algorithm2,
   Algorithm3,
 }
-use Rattle.protocol.specs.Compared.{process1, process2, sending, hearing, Sized, RunsAlgorithm1, RunsAlgorithm2, RunsAlgorithm3}
+use Rattle.protocol.specs.AnyCounts.{#≢, process1, process2, Decides, AnyRound, Proposes, Collects, Settles, SettlesLast, Maintains, IsRoundUnder, PublishedRounds}
+use Rattle.protocol.specs.Machine.{closed}
+use Rattle.protocol.specs.Compared.{sending, hearing, Makes, Runs, RunsAlgorithm1, RunsAlgorithm2, RunsAlgorithm3}
+use Rattle.protocol.proofs.Counting.{count_same}
 use Rattle.protocol.proofs.Choosing.{cells_part}
-use Rattle.protocol.proofs.Course.{stage_is, stage_late}
-use Rattle.protocol.proofs.Comparing.{if_chosen, more_than, at_least, settled_as, after_is, sends_value, sends_tuple}
+use Rattle.protocol.proofs.AnyRounds.{runs_any_round}
 
--- a round of a block, and a controller that is unseated in it
-module _ (x : Setting) (b : Block) (s : Seating) (i : ℕ) (i_in : i < b.n) (out : has s.set i ≡ false) where
-  -- what holds of what the controller would be left with in a round of this stage holds of what it is left with
-  by_stage : (stage : Stage) → stage_of b.n b.round ≡ stage → (P : Memory → Type 0)
-      → P (make stage (terms_of x b) b.round (b.memory i) (hearing x b s i)) → P ((closed x b s).memory i)
-  by_stage stage e P p = subst P (sym (after_is x b s i i_in out stage e)) p
+-- conditions that say the same of each value leave the same choice
+if_any : (P Q : List ℕ → Type 0) → ((w : List ℕ) → P w ↔ Q w) → (c : Held) → IfAny P c ↔ IfAny Q c
+if_any P Q same None = (λ none w q. none w ((same w).1 q), λ none w p. none w ((same w).0 p))
+if_any P Q same (Some w) = same w
 
-  abbrev heard : ℕ → ℕ → Held
-  heard = hearing x b s i
+if_else : (P P' Q Q' : List ℕ → Type 0) → ((w : List ℕ) → P w ↔ P' w) → ((w : List ℕ) → Q w → Q' w) → (w : List ℕ) → IfAnyElse P Q w → IfAnyElse P' Q' w
+if_else P P' Q Q' same next w (inl p) = inl ((same w).0 p)
+if_else P P' Q Q' same next w (inr q) = inr (λ u p. q.0 u ((same u).1 p), next w q.1)
 
-  -- what is heard where a message is one value
-  abbrev values : ℕ → Held
-  values j = heard j 0
+-- tuples that are equal place by place hold each value equally often
+held_same : (n : ℕ) (X Y : ℕ → Held) → ((j : ℕ) → j < n → X j ≡ Y j) → (w : List ℕ) → # n w X ≡ # n w Y
+held_same n X Y same w = count_same (λ j. holds w (X j)) (λ j. holds w (Y j)) n (λ j lt. ap (holds w) (same j lt))
 
-  abbrev sent : ℕ → ℕ → Held
-  sent receiver = hearing x b s receiver i
+-- rows that are equal place by place: what was received, and what was noted down of it
+module _ (n : ℕ) (X Y : ℕ → ℕ → Held) (same : (j k : ℕ) → j < n → k < n → X j k ≡ Y j k) where
+  columns : (l : ℕ) (cand : ℕ → Held) → ((k : ℕ) → k < n → IfAny (λ u. l < # n u (λ j. X j k)) (cand k)) → (k : ℕ) → k < n → IfAny (λ u. l < # n u (λ j. Y j k)) (cand k)
+  columns l cand each k k_in =
+      (if_any _ _ (λ u. let e = held_same n (λ j. X j k) (λ j. Y j k) (λ j j_in. same j k j_in k_in) u in (λ h. omega arith, λ h. omega arith)) (cand k)).0 (each k k_in)
 
-  abbrev cand : ℕ → Held
-  cand = candidate b.n b.counts heard
-
-  abbrev phase : ℕ
-  phase = b.round / 3
-
-  abbrev sends_as : Sending
-  sends_as = sending (s.class i)
-
-  send_v : (stage : Stage) → stage_of b.n b.round ≡ stage → (w : Held) → sends stage (b.memory i) 0 ≡ w → SendValue sends_as w sent
-  send_v stage e w f = sends_value x b s i i_in out w (ap (λ (st : Stage). sends st (b.memory i) 0) e ∙ f)
-
-  send_row : stage_of b.n b.round ≡ Deciding → SendTuple sends_as b.n (b.memory i).row sent
-  send_row e = sends_tuple x b s i i_in out b.n (b.memory i).row (λ k lt. ap (λ (st : Stage). sends st (b.memory i) k) e)
-
-  -- every round is of one stage
-  by_number : (Q : Type 0) → (3 * b.n ≤ b.round → Q)
-      → (b.round < 3 * b.n → b.round % 3 ≡ 0 → Q) → (b.round < 3 * b.n → b.round % 3 ≡ 1 → Q) → (b.round < 3 * b.n → b.round % 3 ≡ 2 → Q) → Q
-  by_number Q late zeroth first second = ⊎_elim early late (cases_lt b.round (3 * b.n))
+  -- with the same bounds, and the row of the same controller
+  settle : {a a' i j : ℕ} (l : ℕ) (fallback : List ℕ) (cand : ℕ → Held) → a ≡ a' → i ≡ j → j < n → (w : List ℕ)
+      → IfAnyElse (λ u. a < # n u cand) (IfAnyElse (λ u. l < # n u (X i)) (λ u. u ≡ fallback)) w
+      → IfAnyElse (λ u. a' < # n u cand) (IfAnyElse (λ u. l < # n u (Y j)) (λ u. u ≡ fallback)) w
+  settle {i = i} {j = j} l fallback cand e f j_in = if_else _ _ _ _ (λ u. (λ h. omega arith, λ h. omega arith)) (if_else _ _ _ _ row (λ _ is. is))
     where
-      split : b.round < 3 * b.n → (k : ℕ) → b.round % 3 ≡ k → Q
-      split lt zero e = zeroth lt e
-      split lt (suc zero) e = first lt e
-      split lt (suc (suc k)) e = second lt (omega arith)
+      row : (u : List ℕ) → (l < # n u (X i)) ↔ (l < # n u (Y j))
+      row u = let g = ap (λ k. # n u (X k)) f ∙ held_same n (X j) (Y j) (λ k k_in. same j k j_in k_in) u in (λ h. omega arith, λ h. omega arith)
 
-      early : b.round < 3 * b.n → Q
-      early lt = split lt (b.round % 3) refl
+module _ (n t r : ℕ) (zero_value : List ℕ) (p : Sending) (before after : Memory) (sent received : ℕ → ℕ → Held) where
+  abbrev values : ℕ → Held
+  values j = received j 0
 
-  -- the counts of unaware
-  module _ (b_is : b.counts.b ≡ 2 * b.t) (l_is : b.counts.l ≡ 2 * b.t) (e_is : b.counts.e ≡ b.t) (big : 5 * b.t < b.n) where
-    propose1 : IfAny (λ w. b.n - 2 * b.t ≤ # b.n w values) (proposed b.n b.counts values)
-    propose1 =
-        if_chosen (λ w. b.n - 2 * b.t ≤ # b.n w values) (b.n - b.counts.b) b.counts.l b.n values (omega arith)
-        (λ w q. omega (arith, q.0)) (λ w m. (omega arith, omega (arith, cells_part values b.n w)))
+  -- a value that n - k hold has at most k others, so that is no further condition
+  enough : (k : ℕ) → k ≤ n → (noted : ℕ → Held) → ((j : ℕ) → j < n → noted j ≡ values j) → (w : List ℕ)
+      → n - k ≤ # n w noted ↔ (n - k ≤ # n w values) × (#≢ n w values ≤ k)
+  enough k k_in noted same w = let e = held_same n noted values same w in (λ h. (omega arith, omega (arith, cells_part values n w)), λ h. omega (arith, h.0))
 
-    return1 : phase < b.n → Return1 b.n b.t phase x.fallback heard cand (decided (terms_of x b) phase heard)
-    unfolding coordinator_of
-    return1 lt =
-        subst (λ (c : ℕ). Return1 b.n b.t phase x.fallback heard cand (settled b.n b.counts x.fallback cand (heard c))) (mod-eq_of_lt lt)
-        (settled_as b.n b.counts x.fallback cand (heard (phase % b.n)) (3 * b.t) (2 * b.t) (omega arith) l_is)
+  -- at most t hold another value where n - t hold this one or nothing, and only there
+  nearly : t ≤ n → (noted : ℕ → Held) → ((j : ℕ) → j < n → noted j ≡ values j) → (w : List ℕ)
+      → (n - 2 * t ≤ # n w noted) × (n - t ≤ # n w noted + #⊥ n noted) ↔ (n - 2 * t ≤ # n w values) × (#≢ n w values ≤ t)
+  nearly t_in noted same w =
+      let e = held_same n noted values same w in
+      let f = count_same (λ j. is_none (noted j)) (λ j. is_none (values j)) n (λ j lt. ap {A = Held} is_none (same j lt)) in
+      let parts = cells_part values n w in (λ h. (omega (arith, h.0), omega (arith, h.1)), λ h. (omega (arith, h.0), omega (arith, h.1)))
 
-    decide1 : phase < b.n → stage_of b.n b.round ≡ Deciding → Decide1 b.n b.t phase x.fallback sends_as (b.memory i).row sent heard (decided (terms_of x b) phase heard)
-    decide1 lt e = record {
-      EV = heard;
-      RV = cand;
-      line_39 = send_row e;
+  -- under some counts
+  abbrev Round : Counts → Type 0
+  Round most = AnyRound n most r zero_value p before sent received after
+
+  module _ (t_in : 2 * t ≤ n) where
+    abbrev counts1 : Counts
+    counts1 = record { b = 2 * t; e = t; l = 2 * t }
+
+    abbrev Published1 : Type 0
+    Published1 = Algorithm1 n t r zero_value p (process1 before) sent received (process1 after)
+
+    decide1 : (s : ℕ) → s < n → (w : List ℕ) → Decides n counts1 s zero_value p before.row sent received w → Decide1 n t s zero_value p before.row sent received w
+    decide1 s s_in w d = record {
+      EV = received;
+      RV = d.candidates;
+      line_39 = d.sends;
       line_41 = λ _ _ _ _. refl;
-      line_44 = λ j _. more_than (2 * b.t) b.counts.l b.n (λ a. heard a j) l_is;
-      lines_45_to_49 = return1 lt;
+      line_44 = d.candidate;
+      lines_45_to_49 =
+          settle n received received (λ _ _ _ _. refl) (2 * t) zero_value d.candidates (omega arith) (sym (mod-eq_of_lt s_in)) (omega arith) w d.settles;
     }
 
-    algorithm1 : Algorithm1 b.n b.t b.round x.fallback sends_as (process1 (b.memory i)) sent heard (process1 ((closed x b s).memory i))
-    unfolding make
-    algorithm1 = by_number (Is ((closed x b s).memory i)) maintain propose collect decide
-      where
-        Is : Memory → Type 0
-        Is m = Algorithm1 b.n b.t b.round x.fallback sends_as (process1 (b.memory i)) sent heard (process1 m)
+    decides1 : (s : ℕ) → s < n → (w : List ℕ) → Decide1 n t s zero_value p before.row sent received w → Decides n counts1 s zero_value p before.row sent received w
+    decides1 s s_in w d = record {
+      candidates = d.RV;
+      sends = d.line_39;
+      candidate = columns n d.EV received d.line_41 (2 * t) d.RV d.line_44;
+      settles = settle n d.EV received d.line_41 (2 * t) zero_value d.RV (omega arith) (mod-eq_of_lt s_in) s_in w d.lines_45_to_49;
+    }
 
-        maintain : 3 * b.n ≤ b.round → Is ((closed x b s).memory i)
-        maintain ge =
-            let e = stage_late b.n b.round ge in
-            by_stage Maintaining e Is (Maintaining1 ge (send_v Maintaining e (b.memory i).decision refl)
-            (at_least (b.n - 2 * b.t) (b.n - b.counts.b) b.n values (omega arith) (omega arith)) refl refl)
+    to1 : Round counts1 → Published1
+    to1 (Proposes s s_in r_is send votes row none) = Proposing1 s s_in r_is
+        (record { PV = values; line_26 = send; line_28 = λ _ _. refl; line_29 = (if_any _ _ (enough (2 * t) t_in values (λ _ _. refl)) after.v).1 votes }) row none
+    to1 (Collects s s_in r_is send row v none) = Collecting1 s s_in r_is (record { line_33 = send; line_35 = row }) v none
+    to1 (Settles s s_in r_is w d v row none) = Deciding1 s s_in r_is w (decide1 s (omega arith) w d) v row none
+    to1 (SettlesLast s s_is r_is w d v row last) = LastDeciding1 s s_is r_is w (decide1 s (omega arith) w d) v row last
+    to1 (Maintains late send votes v row) = Maintaining1 late send votes v row
 
-        propose : b.round < 3 * b.n → b.round % 3 ≡ 0 → Is ((closed x b s).memory i)
-        propose lt k =
-            let e = stage_is b.n b.round 0 lt k in
-            by_stage Proposing e Is (Proposing1 phase (omega arith) (omega arith)
-            (record { PV = values; line_26 = send_v Proposing e (b.memory i).v refl; line_28 = λ _ _. refl; line_29 = propose1 }) refl refl)
+    from1 : Published1 → Round counts1
+    from1 (Proposing1 s s_in r_is q row none) = Proposes s s_in r_is q.line_26 ((if_any _ _ (enough (2 * t) t_in q.PV q.line_28) after.v).0 q.line_29) row none
+    from1 (Collecting1 s s_in r_is q v none) = Collects s s_in r_is q.line_33 q.line_35 v none
+    from1 (Deciding1 s s_in r_is w d v row none) = Settles s s_in r_is w (decides1 s (omega arith) w d) v row none
+    from1 (LastDeciding1 s s_is r_is w d v row last) = SettlesLast s s_is r_is w (decides1 s (omega arith) w d) v row last
+    from1 (Maintaining1 late send votes v row) = Maintains late send votes v row
 
-        collect : b.round < 3 * b.n → b.round % 3 ≡ 1 → Is ((closed x b s).memory i)
-        collect lt k =
-            let e = stage_is b.n b.round 1 lt k in
-            by_stage Collecting e Is (Collecting1 phase (omega arith) (omega arith)
-            (record { line_33 = send_v Collecting e (b.memory i).v refl; line_35 = λ _ _. refl }) refl refl)
+  -- Algorithms 2 and 3, by their proposing round
+  module _ (b : ℕ) (Propose : Sending → Held → (ℕ → ℕ → Held) → (ℕ → ℕ → Held) → Held → Type 0)
+      (proposes : Propose p before.v sent received after.v ↔ SendValue p before.v sent × IfAny (λ w. (n - b ≤ # n w values) × (#≢ n w values ≤ t)) after.v) where
+    abbrev counts2 : Counts
+    counts2 = record { b = b; e = 0; l = t }
 
-        decide : b.round < 3 * b.n → b.round % 3 ≡ 2 → Is ((closed x b s).memory i)
-        decide lt k =
-            let e = stage_is b.n b.round 2 lt k in
-            by_stage Deciding e Is (⊎_elim
-            (λ more. Deciding1 phase more (omega arith) (decided (terms_of x b) phase heard) (decide1 (omega arith) e) refl refl (grind (arith, nat_tests)))
-            (λ last. LastDeciding1 phase (omega arith) (omega arith) (decided (terms_of x b) phase heard) (decide1 (omega arith) e) refl refl (grind (arith, nat_tests)))
-            (cases_lt (suc phase) b.n))
+    abbrev Published2 : Type 0
+    Published2 = MBA_TMC Propose (n - b) n t r zero_value p (process2 before) sent received (process2 after)
 
-  -- the counts of stamped aware
-  module _ (b_is : b.counts.b ≡ 2 * b.t) (l_is : b.counts.l ≡ b.t) (e_is : b.counts.e ≡ 0) (big : 3 * b.t < b.n) where
-    propose2 : IfAny (λ w. (b.n - 2 * b.t ≤ # b.n w values) × (b.n - b.t ≤ # b.n w values + #⊥ b.n values)) (proposed b.n b.counts values)
-    propose2 =
-        if_chosen (λ w. (b.n - 2 * b.t ≤ # b.n w values) × (b.n - b.t ≤ # b.n w values + #⊥ b.n values)) (b.n - b.counts.b) b.counts.l b.n values (omega arith)
-        (λ w q. (omega (arith, q.0), omega (arith, q.1, cells_part values b.n w))) (λ w m. (omega (arith, m.0), omega (arith, m.1, cells_part values b.n w)))
-
-  -- the counts of stamped carried
-  module _ (b_is : b.counts.b ≡ b.t) (l_is : b.counts.l ≡ b.t) (e_is : b.counts.e ≡ 0) (big : 2 * b.t < b.n) where
-    propose3 : IfAny (λ w. b.n - b.t ≤ # b.n w values) (proposed b.n b.counts values)
-    propose3 =
-        if_chosen (λ w. b.n - b.t ≤ # b.n w values) (b.n - b.counts.b) b.counts.l b.n values (omega arith)
-        (λ w q. omega (arith, q.0)) (λ w m. (omega arith, omega (arith, cells_part values b.n w)))
-
-  -- either, with what its proposing round and its maintaining round want
-  module _ (l_is : b.counts.l ≡ b.t) (e_is : b.counts.e ≡ 0) (Propose : Sending → Held → (ℕ → ℕ → Held) → (ℕ → ℕ → Held) → Held → Type 0) (enough : ℕ)
-      (proposes : b.round < 3 * b.n → b.round % 3 ≡ 0 → Propose sends_as (b.memory i).v sent heard (proposed b.n b.counts values))
-      (enough_is : b.n - b.counts.b ≡ enough) (some : 1 ≤ enough) where
-    settle : Settle2 b.n b.t phase x.fallback heard cand (decided (terms_of x b) phase heard)
-    unfolding coordinator_of
-    settle = settled_as b.n b.counts x.fallback cand (heard phase) b.t b.t (omega arith) l_is
-
-    decide2 : stage_of b.n b.round ≡ Deciding → Decide2 b.n b.t phase x.fallback sends_as (b.memory i).row sent heard (decided (terms_of x b) phase heard)
-    decide2 e = record {
-      Echo = heard;
-      Cand = cand;
-      line_12 = send_row e;
+    decide2 : (s : ℕ) → s < n → (w : List ℕ) → Decides n counts2 s zero_value p before.row sent received w → Decide2 n t s zero_value p before.row sent received w
+    decide2 s s_in w d = record {
+      Echo = received;
+      Cand = d.candidates;
+      line_12 = d.sends;
       line_14 = λ _ _ _ _. refl;
-      line_17 = λ k _. more_than b.t b.counts.l b.n (λ j. heard j k) l_is;
-      lines_18_to_23 = settle;
+      line_17 = d.candidate;
+      lines_18_to_23 = settle n received received (λ _ _ _ _. refl) t zero_value d.candidates (omega arith) refl s_in w d.settles;
     }
 
-    counter : MBA_TMC Propose enough b.n b.t b.round x.fallback sends_as (process2 (b.memory i)) sent heard (process2 ((closed x b s).memory i))
-    unfolding make
-    counter = by_number (Is ((closed x b s).memory i)) maintain propose collect decide
-      where
-        Is : Memory → Type 0
-        Is m = MBA_TMC Propose enough b.n b.t b.round x.fallback sends_as (process2 (b.memory i)) sent heard (process2 m)
+    decides2 : (s : ℕ) → s < n → (w : List ℕ) → Decide2 n t s zero_value p before.row sent received w → Decides n counts2 s zero_value p before.row sent received w
+    decides2 s s_in w d = record {
+      candidates = d.Cand;
+      sends = d.line_12;
+      candidate = columns n d.Echo received d.line_14 t d.Cand d.line_17;
+      settles = settle n d.Echo received d.line_14 t zero_value d.Cand (omega arith) refl s_in w d.lines_18_to_23;
+    }
 
-        maintain : 3 * b.n ≤ b.round → Is ((closed x b s).memory i)
-        maintain ge =
-            let e = stage_late b.n b.round ge in
-            by_stage Maintaining e Is (Maintaining2 ge (send_v Maintaining e (b.memory i).decision refl)
-            (at_least enough (b.n - b.counts.b) b.n values enough_is (omega arith)) refl refl)
+    to2 : Round counts2 → Published2
+    to2 (Proposes s s_in r_is send votes row none) = Proposing2 s s_in r_is (proposes.1 (send, votes)) row none
+    to2 (Collects s s_in r_is send row v none) = Collecting2 s s_in r_is send row v none
+    to2 (Settles s s_in r_is w d v row none) = Deciding2 s s_in r_is w (decide2 s (omega arith) w d) v row none
+    to2 (SettlesLast s s_is r_is w d v row last) = LastDeciding2 s s_is r_is w (decide2 s (omega arith) w d) v row last
+    to2 (Maintains late send votes v row) = Maintaining2 late send votes v row
 
-        propose : b.round < 3 * b.n → b.round % 3 ≡ 0 → Is ((closed x b s).memory i)
-        propose lt k = by_stage Proposing (stage_is b.n b.round 0 lt k) Is (Proposing2 phase (omega arith) (omega arith) (proposes lt k) refl refl)
+    from2 : Published2 → Round counts2
+    from2 (Proposing2 s s_in r_is q row none) = let q = proposes.0 q in Proposes s s_in r_is q.0 q.1 row none
+    from2 (Collecting2 s s_in r_is send row v none) = Collects s s_in r_is send row v none
+    from2 (Deciding2 s s_in r_is w d v row none) = Settles s s_in r_is w (decides2 s (omega arith) w d) v row none
+    from2 (LastDeciding2 s s_is r_is w d v row last) = SettlesLast s s_is r_is w (decides2 s (omega arith) w d) v row last
+    from2 (Maintaining2 late send votes v row) = Maintains late send votes v row
 
-        collect : b.round < 3 * b.n → b.round % 3 ≡ 1 → Is ((closed x b s).memory i)
-        collect lt k =
-            let e = stage_is b.n b.round 1 lt k in
-            by_stage Collecting e Is (Collecting2 phase (omega arith) (omega arith) (send_v Collecting e (b.memory i).v refl) (λ _ _. refl) refl refl)
+  proposes2 : t ≤ n → Propose2 n t p before.v sent received after.v ↔ SendValue p before.v sent × IfAny (λ w. (n - 2 * t ≤ # n w values) × (#≢ n w values ≤ t)) after.v
+  proposes2 t_in = (
+    λ q. (q.line_4, (if_any _ _ (nearly t_in q.Prop q.line_6) after.v).0 q.line_7),
+    λ q. record { Prop = values; line_4 = q.0; line_6 = λ _ _. refl; line_7 = (if_any _ _ (nearly t_in values (λ _ _. refl)) after.v).1 q.1 },
+  )
 
-        decide : b.round < 3 * b.n → b.round % 3 ≡ 2 → Is ((closed x b s).memory i)
-        decide lt k =
-            let e = stage_is b.n b.round 2 lt k in
-            by_stage Deciding e Is (⊎_elim
-            (λ more. Deciding2 phase more (omega arith) (decided (terms_of x b) phase heard) (decide2 e) refl refl (grind (arith, nat_tests)))
-            (λ last. LastDeciding2 phase (omega arith) (omega arith) (decided (terms_of x b) phase heard) (decide2 e) refl refl (grind (arith, nat_tests)))
-            (cases_lt (suc phase) b.n))
+  proposes3 : t ≤ n → Propose3 n t p before.v sent received after.v ↔ SendValue p before.v sent × IfAny (λ w. (n - t ≤ # n w values) × (#≢ n w values ≤ t)) after.v
+  proposes3 t_in = (
+    λ q. (q.line_4, (if_any _ _ (enough t t_in q.Prop q.line_6) after.v).0 q.line_7),
+    λ q. record { Prop = values; line_4 = q.0; line_6 = λ _ _. refl; line_7 = (if_any _ _ (enough t t_in values (λ _ _. refl)) after.v).1 q.1 },
+  )
 
-  algorithm2 : b.counts.b ≡ 2 * b.t → b.counts.l ≡ b.t → b.counts.e ≡ 0 → 3 * b.t < b.n
-      → Algorithm2 b.n b.t b.round x.fallback sends_as (process2 (b.memory i)) sent heard (process2 ((closed x b s).memory i))
-  algorithm2 b_is l_is e_is big =
-      counter l_is e_is (Propose2 b.n b.t) (b.n - 2 * b.t)
-      (λ lt k. record { Prop = values; line_4 = send_v Proposing (stage_is b.n b.round 0 lt k) (b.memory i).v refl; line_6 = λ _ _. refl; line_7 = propose2 b_is l_is e_is big })
-      (omega arith) (omega arith)
+pub published_rounds : PublishedRounds
+published_rounds = record {
+  algorithm1 = λ n t r zero_value p before after sent received big.
+      let t_in : 2 * t ≤ n = omega arith in (to1 n t r zero_value p before after sent received t_in, from1 n t r zero_value p before after sent received t_in);
+  algorithm2 = λ n t r zero_value p before after sent received big.
+      let same = proposes2 n t r zero_value p before after sent received (omega arith) in
+      (to2 n t r zero_value p before after sent received (2 * t) (Propose2 n t) same, from2 n t r zero_value p before after sent received (2 * t) (Propose2 n t) same);
+  algorithm3 = λ n t r zero_value p before after sent received big.
+      let same = proposes3 n t r zero_value p before after sent received (omega arith) in
+      (to2 n t r zero_value p before after sent received t (Propose3 n t) same, from2 n t r zero_value p before after sent received t (Propose3 n t) same);
+}
 
-  algorithm3 : b.counts.b ≡ b.t → b.counts.l ≡ b.t → b.counts.e ≡ 0 → 2 * b.t < b.n
-      → Algorithm3 b.n b.t b.round x.fallback sends_as (process2 (b.memory i)) sent heard (process2 ((closed x b s).memory i))
-  algorithm3 b_is l_is e_is big =
-      counter l_is e_is (Propose3 b.n b.t) (b.n - b.t)
-      (λ lt k. record { Prop = values; line_4 = send_v Proposing (stage_is b.n b.round 0 lt k) (b.memory i).v refl; line_6 = λ _ _. refl; line_7 = propose3 b_is l_is e_is big })
-      (omega arith) (omega arith)
+-- a block has at most 16 controllers, so its t is below 16, and its model's counts are those of the algorithm
+by_counts : {P : Type 0} (m : Meaning) (counts : ℕ → Counts) (process : Memory → P)
+    → (algorithm : Algorithm P)
+    → ((t : ℕ) → min t 15 ≡ t → m.counts t ≡ counts t) → IsRoundUnder counts process algorithm → Runs m process algorithm
+by_counts m counts process algorithm same is x b s z i i_in out =
+    (is b.n b.t b.round x.fallback (sending (s.class i)) (b.memory i) ((closed x b s).memory i) (λ receiver. hearing x b s receiver i) (hearing x b s i) (big (counts b.t) counts_are)).0
+    (subst (λ most. Makes (λ own. own) (λ n t. AnyRound n most) x b s (closed x b s)) (z.counts ∙ counts_are) (runs_any_round x b s (big b.counts (sym z.counts))) i i_in out)
+  where
+    counts_are : m.counts b.t ≡ counts b.t
+    counts_are = same b.t (omega (arith, z.faults, z.size))
 
--- a block's counts are those of its model
-module _ {m : Meaning} {b : Block} (sized : Sized m b) where
-  b_of : b.counts.b ≡ (m.counts b.t).b
-  b_of = ap (λ (c : Counts). c.b) sized.counts
-
-  e_of : b.counts.e ≡ (m.counts b.t).e
-  e_of = ap (λ (c : Counts). c.e) sized.counts
-
-  l_of : b.counts.l ≡ (m.counts b.t).l
-  l_of = ap (λ (c : Counts). c.l) sized.counts
-
-  t_of : min b.t 15 ≡ b.t
-  t_of = omega (arith, sized.faults, sized.size)
+    big : (most : Counts) → m.counts b.t ≡ most → most.b + most.e + most.l < b.n
+    big most e = subst (λ (c : Counts). c.b + c.e + c.l < b.n) e z.resilient
 
 pub runs_algorithm_1 : RunsAlgorithm1
-runs_algorithm_1 x b s z i i_in out =
-    algorithm1 x b s i i_in out (omega (arith, b_of z, t_of z)) (omega (arith, l_of z, t_of z)) (omega (arith, e_of z, t_of z)) (omega (arith, z.resilient, t_of z))
+runs_algorithm_1 = by_counts (standard Unaware) (λ t. record { b = 2 * t; e = t; l = 2 * t }) process1 Algorithm1 (λ t e. let once : 1 * min t 15 ≡ t = omega arith in cc) published_rounds.algorithm1
 
 pub runs_algorithm_2 : RunsAlgorithm2
-runs_algorithm_2 x b s z i i_in out =
-    algorithm2 x b s i i_in out (omega (arith, b_of z, t_of z)) (omega (arith, l_of z, t_of z)) (e_of z) (omega (arith, z.resilient, t_of z))
+runs_algorithm_2 = by_counts (stamped (standard Aware)) (λ t. record { b = 2 * t; e = 0; l = t }) process2 Algorithm2 (λ t e. let once : 1 * min t 15 ≡ t = omega arith in cc) published_rounds.algorithm2
 
 pub runs_algorithm_3 : RunsAlgorithm3
-runs_algorithm_3 x b s z i i_in out =
-    algorithm3 x b s i i_in out (omega (arith, b_of z, t_of z)) (omega (arith, l_of z, t_of z)) (e_of z) (omega (arith, z.resilient, t_of z))
+runs_algorithm_3 = by_counts (stamped (standard Carried)) (λ t. record { b = t; e = 0; l = t }) process2 Algorithm3 (λ t e. let once : 1 * min t 15 ≡ t = omega arith in cc) published_rounds.algorithm3

@@ -1,5 +1,5 @@
 -- The rounds of the run beside the published ones. Assumes nothing.
-use Rattle.std.specs.Prelude.{◌≡◌, ℕ, ◌+◌, ◌<◌, ◌≤◌, false, if◌then◌else◌, List, None}
+use Rattle.std.specs.Prelude.{◌≡◌, ℕ, ◌+◌, ◌*◌, ◌<◌, ◌≤◌, false, if◌then◌else◌, List, None}
 use Rattle.values.specs.Cells.{Held}
 use Rattle.models.specs.declared.classes.Class.{Class}
 use Rattle.models.specs.declared.classes.Class.TheVariants.{Honest, Silent, Uniform, Free}
@@ -9,15 +9,10 @@ use Rattle.models.specs.Sets.{has}
 use Rattle.models.specs.Standards.{standard}
 use Rattle.models.specs.Stamps.{stamped}
 use Rattle.protocol.specs.Rounds.{Memory, sent_in, heard}
-use Rattle.protocol.specs.Machine.{Setting, Block, Seating, open_refusal, opened, seating, terms_of, closed}
-use Rattle.protocol.specs.Publications.{Sending, Correct, CuredAware, CuredUnaware, Unbound, Process1, Process2, Algorithm1, Algorithm2, Algorithm3}
-
--- what a controller keeps, under the publications' names
-abbrev pub process1 : Memory → Process1
-process1 x = record { v = x.v; SV = x.row; dec = x.decision }
-
-abbrev pub process2 : Memory → Process2
-process2 x = record { v = x.v; Rec = x.row; dec = x.decision }
+use Rattle.protocol.specs.Machine.{Setting, Block, Seating, Idle, Seated, Call, open_refusal, opened, seating, terms_of, closed}
+use Rattle.protocol.specs.Publications.{Algorithm, Sending, Correct, CuredAware, CuredUnaware, Unbound, SendTuple, SendValue, Process2, Algorithm1, Algorithm2, Algorithm3}
+use Rattle.protocol.specs.AnyCounts.{AnyRound, process1, process2}
+use Rattle.protocol.specs.Transcripts.{state_after}
 
 -- how a controller that is unseated in a round sends in it, by its class
 abbrev pub sending : Class → Sending
@@ -38,18 +33,25 @@ abbrev pub hearing : Setting → Block → Seating → (i j k : ℕ) → Held
 hearing x b s = heard s.class (sent_in (terms_of x b) b.round b.memory) s.forged
 
 -- From a block and a seating to the block after the round every unseated controller made one round of an algorithm: from what it kept, what the
--- others hear from it and what it hears from them, to what it keeps then.
-abbrev pub Makes : {P : Type 0} → (Memory → P) → ((n t r : ℕ) → List ℕ → Sending → P → (sent received : ℕ → ℕ → Held) → P → Type 0)
-    → Setting → Block → Seating → (next : Block) → Type 0
-Makes process algorithm x b s next = (i : ℕ) → i < b.n → has s.set i ≡ false
-    → algorithm b.n b.t b.round x.fallback (sending (s.class i)) (process (b.memory i))
+-- others hear from it and what it hears from them, to what it keeps then; by who sends how.
+abbrev pub MakesBy : (senders : ℕ → Sending) → {P : Type 0} → (Memory → P) → Algorithm P → Setting → Block → Seating → (next : Block) → Type 0
+MakesBy senders process algorithm x b s next = (i : ℕ) → i < b.n → has s.set i ≡ false
+    → algorithm b.n b.t b.round x.fallback (senders i) (process (b.memory i))
     (λ receiver. hearing x b s receiver i)
     (hearing x b s i)
     (process (next.memory i))
 
--- so does every close of a block with the counts of a model
-abbrev pub Runs : {P : Type 0} → Meaning → (Memory → P)
-    → ((n t r : ℕ) → List ℕ → Sending → P → (sent received : ℕ → ℕ → Held) → P → Type 0) → Type 0
+-- who sends how goes by the classes
+abbrev pub Makes : {P : Type 0} → (Memory → P) → Algorithm P → Setting → Block → Seating → (next : Block) → Type 0
+Makes process algorithm x b s next = MakesBy (λ i. sending (s.class i)) process algorithm x b s next
+
+-- whichever counts a block has, if n is above their sum its close is the round under them
+abbrev pub RunsAnyRound : Type 0
+RunsAnyRound = (x : Setting) (b : Block) (s : Seating) → b.counts.b + b.counts.e + b.counts.l < b.n
+    → Makes (λ own. own) (λ n t. AnyRound n b.counts) x b s (closed x b s)
+
+-- every close of a block with the counts of a model is a round of an algorithm
+abbrev pub Runs : {P : Type 0} → Meaning → (Memory → P) → Algorithm P → Type 0
 Runs m process algorithm = (x : Setting) (b : Block) (s : Seating) → Sized m b → Makes process algorithm x b s (closed x b s)
 
 -- with the counts of unaware the rounds are those of Algorithm 1, with those of stamped aware Algorithm 2, and with those of stamped carried Algorithm 3
@@ -81,3 +83,26 @@ SendsInAlgorithm2 = SendsAs (stamped (standard Aware)) CuredAware
 
 abbrev pub SendsInAlgorithm3 : Type 0
 SendsInAlgorithm3 = SendsAs (stamped (standard Carried)) CuredUnaware
+
+-- who sends how goes by the last set: whoever was in it as `cured` says, and everybody else as a correct process
+abbrev pub MakesAfter : {P : Type 0} → (Memory → P) → Algorithm P → (cured : Sending) → Setting → Block → Seating → (next : Block) → Type 0
+MakesAfter process algorithm cured x b s next = MakesBy (λ i. if has b.last i then cured else Correct) process algorithm x b s next
+
+-- after any calls that all name a model and leave a round seated, its close is a round of an algorithm so
+abbrev pub RunsAfterCalls : {P : Type 0} → Meaning → (Memory → P) → Algorithm P → (cured : Sending) → Type 0
+RunsAfterCalls m process algorithm cured = (x : Setting) (calls : List Call) (b : Block) (s : Seating) → state_after x m Idle calls ≡ Seated b s
+    → MakesAfter process algorithm cured x b s (closed x b s)
+
+-- the sending lines of a round of Algorithms 2 and 3: 4 in round 3s, 9 in round 3s + 1, 12 in round 3s + 2 and 26 from round 3n on
+pub data Sends2 (n r : ℕ) (p : Sending) (own : Process2) (sent : ℕ → ℕ → Held) : Type 0 where
+  Line4 : (s : ℕ) → s < n → r ≡ 3 * s → SendValue p own.v sent → Sends2 n r p own sent
+  Line9 : (s : ℕ) → s < n → r ≡ 3 * s + 1 → SendValue p own.v sent → Sends2 n r p own sent
+  Line12 : (s : ℕ) → s < n → r ≡ 3 * s + 2 → SendTuple p n own.Rec sent → Sends2 n r p own sent
+  Line26 : 3 * n ≤ r → SendValue p own.dec sent → Sends2 n r p own sent
+
+-- in Buhrman's model the fault arrives after the send: whoever was not in the last set sends as a correct process, also where it is seated now
+abbrev pub SendsCorrectly : Setting → Block → Seating → Type 0
+SendsCorrectly x b s = (i : ℕ) → i < b.n → has b.last i ≡ false → Sends2 b.n b.round Correct (process2 (b.memory i)) (λ receiver. hearing x b s receiver i)
+
+abbrev pub SendsAfterCalls : Meaning → Type 0
+SendsAfterCalls m = (x : Setting) (calls : List Call) (b : Block) (s : Seating) → state_after x m Idle calls ≡ Seated b s → SendsCorrectly x b s

@@ -1,6 +1,7 @@
 pub mod Stages
 pub mod Rounds
 pub mod Publications
+pub mod AnyCounts
 pub mod Machine
 pub mod MachineLaws
 pub mod Compared

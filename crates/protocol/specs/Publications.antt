@@ -52,6 +52,11 @@ SendTuple Unbound n X sent = ⊤
 abbrev pub SendValue : Sending → Held → (sent : ℕ → ℕ → Held) → Type 0
 SendValue p w sent = SendTuple p 1 (λ _. w) sent
 
+-- One round of an algorithm, of a process that keeps a P: n, t, the round r, the publication's 0, how the process sends, what it keeps before, what it
+-- sends and receives, and what it keeps after.
+abbrev pub Algorithm : Type 0 → Type 1
+Algorithm P = (n t r : ℕ) → List ℕ → Sending → P → (sent received : ℕ → ℕ → Held) → P → Type 0
+
 -- Algorithm 1
 
 -- what process p_i keeps from round to round: v_i, SV_i and dec_i

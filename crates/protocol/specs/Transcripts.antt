@@ -53,52 +53,60 @@ pub record Opening : Type 0 where
   pub proposals : List (List ℕ)
   pub initial : ℕ
 
--- what one accepted call adds: an opening, a set, a close, or the cell that a decision answered
-abbrev pub opening_in : Call → Option Opening
-opening_in (Open n t proposals initial) = Some (record { n = n; t = t; proposals = proposals; initial = initial })
-opening_in (Seat set) = None
-opening_in (Forge j i k cell) = None
-opening_in Close = None
-opening_in (Decision i) = None
+-- What one call adds, by the call first: an opening, a set, a close, or the cell that a decision answered. The answer is asked only where the
+-- call can add something, so whatever other calls answer adds nothing.
+abbrev pub opening_in : Call → Answer → Option Opening
+opening_in (Open n t proposals initial) answer = if accepted answer then Some (record { n = n; t = t; proposals = proposals; initial = initial }) else None
+opening_in (Seat set) answer = None
+opening_in (Forge j i k cell) answer = None
+opening_in Close answer = None
+opening_in (Decision i) answer = None
 
-abbrev pub sets_in : Call → List ℕ
-sets_in (Open n t proposals initial) = []
-sets_in (Seat set) = set ∷ []
-sets_in (Forge j i k cell) = []
-sets_in Close = []
-sets_in (Decision i) = []
+abbrev pub sets_in : Call → Answer → List ℕ
+sets_in (Open n t proposals initial) answer = []
+sets_in (Seat set) answer = if accepted answer then set ∷ [] else []
+sets_in (Forge j i k cell) answer = []
+sets_in Close answer = []
+sets_in (Decision i) answer = []
 
-abbrev pub closes_in : Call → ℕ
-closes_in (Open n t proposals initial) = 0
-closes_in (Seat set) = 0
-closes_in (Forge j i k cell) = 0
-closes_in Close = 1
-closes_in (Decision i) = 0
+abbrev pub closes_in : Call → Answer → ℕ
+closes_in (Open n t proposals initial) answer = 0
+closes_in (Seat set) answer = 0
+closes_in (Forge j i k cell) answer = 0
+closes_in Close answer = if accepted answer then 1 else 0
+closes_in (Decision i) answer = 0
 
-abbrev pub cell_in : Answer → Option Held
-cell_in Done = None
-cell_in (Decided cell) = Some cell
-cell_in (Refused why) = None
+abbrev pub told_cell : Answer → Option Held
+told_cell Done = None
+told_cell (Decided cell) = Some cell
+told_cell (Refused why) = None
+
+abbrev pub cell_in : Call → Answer → Option Held
+cell_in (Open n t proposals initial) answer = None
+cell_in (Seat set) answer = None
+cell_in (Forge j i k cell) answer = None
+cell_in Close answer = None
+cell_in (Decision i) answer = told_cell answer
 
 -- the accepted open
 abbrev pub opening : Transcript → Option Opening
 opening [] = None
-opening (e ∷ rest) = option_or (if accepted e.answer then opening_in e.call else None) (opening rest)
+opening (e ∷ rest) = option_or (opening_in e.call e.answer) (opening rest)
 
 -- the sets of the accepted seats, those of rounds 0, 1, 2 and so on
 abbrev pub sets : Transcript → List ℕ
 sets [] = []
-sets (e ∷ rest) = (if accepted e.answer then sets_in e.call else []) ++ sets rest
+sets (e ∷ rest) = sets_in e.call e.answer ++ sets rest
 
 -- how many rounds were closed
 abbrev pub closes : Transcript → ℕ
 closes [] = 0
-closes (e ∷ rest) = (if accepted e.answer then closes_in e.call else 0) + closes rest
+closes (e ∷ rest) = closes_in e.call e.answer + closes rest
 
 -- the cell that call number i answered, if it was an accepted decision
 abbrev pub answered : Transcript → ℕ → Option Held
 answered [] i = None
-answered (e ∷ rest) zero = cell_in e.answer
+answered (e ∷ rest) zero = cell_in e.call e.answer
 answered (e ∷ rest) (suc i) = answered rest i
 
 -- the set of round r; nobody is in the set of a round never reached
@@ -131,6 +139,8 @@ pub record Agrees (m : Meaning) (log : Transcript) (o : Opening) : Type 0 where
   pub equal : (c : ℕ) → Clean log o c → (i j : ℕ) (x y : List ℕ) → answered log i ≡ Some (Some x) → answered log j ≡ Some (Some y) → x ≡ y
   -- with one, every decision answered after the close of round 3n - 1 is filled
   pub filled : (c : ℕ) → Clean log o c → (i : ℕ) (cell : Held) → answered log i ≡ Some cell → 3 * o.n ≤ closes (take i log) → Filled cell
+  -- every decision answered before it is empty; this needs no clean coordinator
+  pub early : (i : ℕ) (cell : Held) → answered log i ≡ Some cell → closes (take i log) < 3 * o.n → cell ≡ None
   -- if all controllers that the model calls honest in round 0 proposed w, every filled decision is w; this needs no clean coordinator
   pub valid : (w : List ℕ) → ((i : ℕ) → i < o.n → HonestAtStart m log o i → Proposed o i w) → (i : ℕ) (x : List ℕ) → answered log i ≡ Some (Some x) → x ≡ w
 
@@ -143,6 +153,11 @@ pub record Law (m : Meaning) (log : Transcript) : Type 0 where
 abbrev pub transcript : Setting → Meaning → State → List Call → Transcript
 transcript x m s [] = []
 transcript x m s (c ∷ calls) = record { call = c; answer = (step x m s c).1 } ∷ transcript x m (step x m s c).0 calls
+
+-- the state after a list of calls that name one model
+abbrev pub state_after : Setting → Meaning → State → List Call → State
+state_after x m s [] = s
+state_after x m s (c ∷ calls) = state_after x m (step x m s c).0 calls
 
 -- the theorem: whatever is called, what the machine answers obeys the law, under every lawful model
 abbrev pub Agreement : Type 0

@@ -76,9 +76,9 @@ abbrev pub outcomes : Setting → State → List Trial → List Outcome
 outcomes x s [] = []
 outcomes x s (trial ∷ rest) = let r = step x trial.model s trial.call in outcome_of r.1 ∷ outcomes x r.0 rest
 
-abbrev pub state_after : Setting → State → List Trial → State
-state_after x s [] = s
-state_after x s (trial ∷ rest) = state_after x (step x trial.model s trial.call).0 rest
+abbrev pub left_after : Setting → State → List Trial → State
+left_after x s [] = s
+left_after x s (trial ∷ rest) = left_after x (step x trial.model s trial.call).0 rest
 
 -- whether a run so does what is tried of it
 abbrev pub Comes : (cells : ℕ) → List Trial → Type 0
@@ -102,7 +102,7 @@ bytes_of (x ∷ rest) = x % 256 ∷ x / 256 ∷ bytes_of rest
 abbrev pub Claim : Vote → Type 0
 Claim (Calls cells trials) = Comes cells trials
 Claim (Leaves trials v rows) =
-    let kept = kept_in (state_after (setting ample) Idle trials) in
+    let kept = kept_in (left_after (setting ample) Idle trials) in
     let all = range_with_len 0 (length v) in
     Comes ample trials × (map (λ i. (kept i).v) all ≡ v) × (map (λ i. map (kept i).row all) all ≡ rows)
 Claim (Proposes m n t heard v) = (make Proposing (terms m n t) 0 blank (λ j k. cell_at heard j)).v ≡ v
