@@ -9,4 +9,5 @@ mod Forging
 mod Steps
 mod Promised
 pub mod Sizes
+pub mod Chains
 mod Playing

@@ -1,122 +1,130 @@
 -- A list of calls that is performed one by one.
-use Rattle.std.proofs.Common.{◌≡◌, ℕ, zero, suc, arith, refl, sym, ap, ◌∙◌, List, [], ◌∷◌, ◌++◌, map, length, drop, Some, None, Option, Result, subst}
-use Rattle.std.proofs.lemmas.List.{append-nil, append_assoc, map-append}
+use Rattle.std.proofs.Common.{◌≡◌, ℕ, zero, suc, ◌+◌, ◌<◌, arith, refl, sym, ap, ◌∙◌, List, [], ◌∷◌, ◌++◌, map, length, take, drop, set, get_or, Some, None, Option, Result, subst}
+use Rattle.std.specs.List.{slice_get}
 use denote.Bor.{Bor}
-use Rattle.std.specs.Option.{MatchOption, option_copied}
+use Rattle.std.specs.Option.{IfSome, option_copied, option_map}
+use Rattle.std.proofs.lemmas.List.{map-append, take_more, take_more_set, drop-set-lt, drop-drop}
+use Rattle.std.proofs.lemmas.Option.{slice_get-map}
 use Rattle.values.specs.declared.kinds.Kind.{Ghosts}
 use Rattle.values.specs.declared.refusals.Refusal.{Refusal}
+use Rattle.values.specs.Cells.{shows}
 use Rattle.models.specs.Laws.{Meaning}
 use Rattle.protocol.specs.Machine as machine
-use Rattle.protocol.specs.Machine.{Setting, State, Idle, Waiting, Seated, Open, Seat, Forge, Close, Decision, needed, unless, step, open_refusal, seat_refusal, forge_refusal, decision_refusal}
-use Rattle.protocol.specs.Transcripts.{Entry, Law, transcript}
+use Rattle.protocol.specs.Machine.{Setting, State, Idle, Waiting, Seated, Open, Seat, Forge, Close, Decision, Decided, needed, unless, step, open_refusal, seat_refusal, forge_refusal, decision_refusal}
+use Rattle.protocol.specs.Transcripts.{Entry, Law, cell_in, answered, transcript, state_after}
 use Rattle.run.specs.declared.run.Run.{Run}
 use Rattle.run.specs.declared.calls.Call.{Call}
 use Rattle.run.specs.declared.calls.Answer.{Answer}
-use Rattle.run.specs.declared.turns.Turn.{Turn}
-use Rattle.run.specs.declared.turns.Turn.TheVariants as turns
 use Rattle.run.specs.Turns.{size_of}
 use Rattle.run.specs.Calls.{asked, said}
-use Rattle.run.specs.Views.{view}
-use Rattle.run.specs.Runs.{state, Performs}
-use Rattle.run.specs.Promises.{state_after, block_size, replies, entries}
-use Rattle.run.proofs.Sizes.{step_size, size_is}
+use Rattle.run.specs.Runs.{setting_over, setting, state, Performs, Keeps}
+use Rattle.run.specs.Standing.{entry}
+use Rattle.run.specs.Promises.{block_size, replies, entries, log_of, TellsDecisions}
+use Rattle.run.proofs.Sizes.{size_is}
+use Rattle.protocol.proofs.Joined.{state_joined, transcript_joined}
+use Rattle.run.proofs.Chains.{keeps_all, keeps_more, performs_keeps, taken}
 
--- the machine's answers to a list of calls, from any state
-abbrev pub replies_from : Setting → Meaning → State → List machine.Call → List machine.Answer
-replies_from x m s calls = map (λ (e : Entry). e.answer) (transcript x m s calls)
-
--- with the calls they are the transcript
-entries_are : (x : Setting) (m : Meaning) (s : State) (calls : List machine.Call) → entries calls (replies_from x m s calls) ≡ transcript x m s calls
+-- the machine's answers to a list of calls, beside the calls, are the transcript
+entries_are : (x : Setting) (m : Meaning) (s : State) (calls : List machine.Call) → entries calls (map (λ (e : Entry). e.answer) (transcript x m s calls)) ≡ transcript x m s calls
 entries_are x m s [] = refl
-entries_are x m s (c ∷ calls) = ap (◌∷◌ (record { call = c; answer = (step x m s c).1 })) (entries_are x m (step x m s c).0 calls)
+entries_are x m s (c ∷ calls) = ap (◌∷◌ (entry c (step x m s c).1)) (entries_are x m (step x m s c).0 calls)
 
--- so does the size of a block that there is
-after_size : (x : Setting) (m : Meaning) (k : ℕ) (s : State) (calls : List machine.Call) → block_size s ≡ suc k → block_size (state_after x m s calls) ≡ suc k
-after_size x m k s [] e = e
-after_size x m k s (c ∷ calls) e = after_size x m k (step x m s c).0 calls (step_size x m k s c e)
+-- only a decision is answered a cell
+unless_decides : (c : machine.Call) (cell : _) (why : Option Refusal) (before after : State) → (unless why before after machine.Done).1 ≡ Decided cell → cell_in c (Decided cell) ≡ Some cell
+unless_decides c cell None before after e = absurd (grind arith)
+unless_decides c cell (Some why) before after e = absurd (grind arith)
 
--- so what a call leaves as it was past its block's need stays past the need of the block at the end
-past_end : {X : Type 0} (x : Setting) (m : Meaning) (s : State) (calls : List machine.Call) (before next : List X) → drop (needed (block_size s)) next ≡ drop (needed (block_size s)) before
-    → drop (needed (block_size (state_after x m s calls))) next ≡ drop (needed (block_size (state_after x m s calls))) before
-past_end x m s calls before next e = go (block_size s) refl e
-  where
-    go : (n : ℕ) → block_size s ≡ n → drop (needed n) next ≡ drop (needed n) before → drop (needed (block_size (state_after x m s calls))) next ≡ drop (needed (block_size (state_after x m s calls))) before
-    go zero is all = ap (drop (needed (block_size (state_after x m s calls)))) all
-    go (suc k) is rest = let end = after_size x m k s calls is in rw end rest
+decides : (x : Setting) (m : Meaning) (s : State) (c : machine.Call) (cell : _) → (step x m s c).1 ≡ Decided cell → cell_in c (Decided cell) ≡ Some cell
+decides x m s (Decision i) cell e = refl
+decides x m Idle (Open n t proposals initial) cell e = unless_decides (Open n t proposals initial) cell (open_refusal x m n t proposals initial) Idle _ e
+decides x m (Waiting b) (Open n t proposals initial) cell e = absurd (grind arith)
+decides x m (Seated b s) (Open n t proposals initial) cell e = absurd (grind arith)
+decides x m Idle (Seat set) cell e = absurd (grind arith)
+decides x m (Waiting b) (Seat set) cell e = unless_decides (Seat set) cell (seat_refusal m b set) (Waiting b) _ e
+decides x m (Seated b s) (Seat set) cell e = absurd (grind arith)
+decides x m Idle (Forge j i k c) cell e = absurd (grind arith)
+decides x m (Waiting b) (Forge j i k c) cell e = absurd (grind arith)
+decides x m (Seated b s) (Forge j i k c) cell e = unless_decides (Forge j i k c) cell (forge_refusal b s j i k) (Seated b s) _ e
+decides x m Idle Close cell e = absurd (grind arith)
+decides x m (Waiting b) Close cell e = absurd (grind arith)
+decides x m (Seated b s) Close cell e = absurd (grind arith)
 
--- what an iterator over calls gave, by what is left to it
-next_is : {X : Type 0} (P : Type 0) (rest next : List X) (call : X) (x : Option (Bor X)) → MatchOption x P (λ y. rest ≡ y.now ∷ next) → Some call ≡ option_copied x → rest ≡ call ∷ next
-next_is P rest next call None m e = absurd (grind arith)
-next_is P rest next call (Some y) m e = let same : call ≡ y.now = grind arith in m ∙ ap (λ c. c ∷ next) (sym same)
+-- so what is told as a cell is an answered decision
+answered_at : (x : Setting) (m : Meaning) (s : State) (calls : List machine.Call) (i : ℕ) (cell : _)
+    → slice_get (map (λ (e : Entry). e.answer) (transcript x m s calls)) i ≡ Some (Decided cell) → answered (transcript x m s calls) i ≡ Some cell
+answered_at x m s [] i cell e = absurd (cc e)
+answered_at x m s (c ∷ calls) zero cell e = let is : (step x m s c).1 ≡ Decided cell = grind arith in ap (cell_in c) is ∙ decides x m s c cell is
+answered_at x m s (c ∷ calls) (suc i) cell e = answered_at x m (step x m s c).0 calls i cell e
 
-pub one_fewer : {X : Type 0} (P : Type 0) (rest next : List X) (call : X) (x : Option (Bor X)) → MatchOption x P (λ y. rest ≡ y.now ∷ next) → Some call ≡ option_copied x → length rest ≡ suc (length next)
-one_fewer P rest next call x m e = ap length (next_is P rest next call x m e)
-
-none_left : {X : Type 0} (P : Type 0) (Q : Bor X → Type 0) (rest : List X) (x : Option (Bor X)) → MatchOption x ((length rest ≡ 0) × P) Q → ◌≡◌ {A = Option X} None (option_copied x) → rest ≡ []
-none_left P Q [] None m e = refl
-none_left P Q (call ∷ rest) None m e = absurd (omega (arith, m.0))
-none_left P Q rest (Some y) m e = absurd (grind arith)
+-- what a look-up found
+pub found : {X : Type 0} (xs : List X) (i : ℕ) (x : X) (o : Option (Bor X)) → IfSome o (λ y. y.now ≡ get_or xs i y.now) → option_copied o ≡ Some x → x ≡ get_or xs i x
+found xs i x None m e = absurd (cc e)
+found xs i x (Some y) m e = let same : y.now ≡ x = cc e in subst (λ x. x ≡ get_or xs i x) same m
 
 module _ {V R : Type 0} (kind : Ghosts V R) (m : Meaning) (calls : List (Call R)) (cells : List (Option R)) where
   abbrev x : Setting
-  x = record { cells = length cells; fallback = kind.rules.fallback }
+  x = setting_over kind.rules cells
 
-  abbrev acts : List (Call R) → List machine.Call
-  acts = map (asked kind.rules kind.plain)
+  -- the first so many calls, as the machine has them
+  abbrev acts : ℕ → List machine.Call
+  acts at = map (asked kind.rules kind.plain) (take at calls)
 
   abbrev saids : List (Result (Answer R) Refusal) → List machine.Answer
   saids = map (said kind.rules kind.plain)
 
-  abbrev end : ℕ
-  end = needed (block_size (state_after x m Idle (acts calls)))
+  -- the first so many calls are performed, and their answers in their places
+  pub record InPlay (first run : Run V R kind) (before answers : List (Result (Answer R) Refusal)) (at : ℕ) : Type 0 where
+    pub told : saids (take at answers) ≡ replies x m (acts at)
+    pub stands : state_after x m Idle (acts at) ≡ state run
+    pub keeps : Keeps first run
+    pub rest : drop at answers ≡ drop at before
 
-  -- the answers so far and those to what is left are all answers
-  pub record InPlay (run : Run V R kind) (answers : List (Result (Answer R) Refusal)) (left : List (Call R)) : Type 0 where
-    pub told : saids answers ++ replies_from x m (state run) (acts left) ≡ replies_from x m Idle (acts calls)
-    pub ends : state_after x m (state run) (acts left) ≡ state_after x m Idle (acts calls)
-    pub room : length run.cells.now ≡ length cells
-    pub past : drop end run.cells.now ≡ drop end cells
+  pub none_played : (first : Run V R kind) (answers : List (Result (Answer R) Refusal)) → state first ≡ Idle → InPlay first first answers answers 0
+  none_played first answers idle = record { told = refl; stands = sym idle; keeps = keeps_all first; rest = refl }
 
-  goes_on : (before next : Run V R kind) (answers : List (Result (Answer R) Refusal)) (call : Call R) (answer : Result (Answer R) Refusal) (left : List (Call R))
-      → InPlay before answers (call ∷ left) → Performs m (asked kind.rules kind.plain call) (said kind.rules kind.plain answer) before next → InPlay next (answers ++ answer ∷ []) left
-  goes_on before next answers call answer left so_far performs = record { told = told; ends = ends; room = performs.room ∙ so_far.room; past = past }
+  pub one_played : (first run next : Run V R kind) (before answers : List (Result (Answer R) Refusal)) (at : ℕ) (call : Call R) (answer : Result (Answer R) Refusal) → setting first ≡ x
+      → InPlay first run before answers at → at < length calls → at < length answers → call ≡ get_or calls at call
+      → Performs m (asked kind.rules kind.plain call) (said kind.rules kind.plain answer) run next → InPlay first next before (set answers at answer) (at + 1)
+  one_played first run next before answers at call answer same so_far in_calls in_answers is performs = record {
+    told = ap saids (take_more_set answers at answer in_answers) ∙ map-append (said kind.rules kind.plain) (take at answers) (answer ∷ [])
+        ∙ ap (λ done. done ++ (said kind.rules kind.plain answer ∷ [])) so_far.told ∙ ap (λ (a : machine.Answer). replies x m (acts at) ++ (a ∷ [])) (ap (λ (q : State × machine.Answer). q.1) stepped) ∙ sym more_replies;
+    stands = ap (state_after x m Idle) more_acts ∙ state_joined x m Idle (acts at) (c ∷ []) ∙ sym (ap (λ (q : State × machine.Answer). q.0) stepped);
+    keeps = keeps_more first run next so_far.keeps (performs_keeps run next performs);
+    rest = past;
+  }
     where
-      stepped : (state next, said kind.rules kind.plain answer) ≡ step x m (state before) (asked kind.rules kind.plain call)
-      stepped = performs.stepped ∙ ap (λ n. step (record { cells = n; fallback = kind.rules.fallback }) m (state before) (asked kind.rules kind.plain call)) so_far.room
+      c : machine.Call
+      c = asked kind.rules kind.plain call
 
-      told : saids (answers ++ answer ∷ []) ++ replies_from x m (state next) (acts left) ≡ replies_from x m Idle (acts calls)
-      told =
-          ap (λ said. said ++ replies_from x m (state next) (acts left)) (map-append (said kind.rules kind.plain) answers (answer ∷ []))
-          ∙ append_assoc (saids answers) (said kind.rules kind.plain answer ∷ []) (replies_from x m (state next) (acts left))
-          ∙ ap (λ (p : State × machine.Answer). saids answers ++ (p.1 ∷ replies_from x m p.0 (acts left))) stepped
-          ∙ so_far.told
+      more_acts : acts (at + 1) ≡ acts at ++ c ∷ []
+      more_acts = ap (map (asked kind.rules kind.plain)) (take_more calls at call in_calls ∙ ap (λ call. take at calls ++ call ∷ []) (sym is)) ∙ map-append (asked kind.rules kind.plain) (take at calls) (call ∷ [])
 
-      ends : state_after x m (state next) (acts left) ≡ state_after x m Idle (acts calls)
-      ends = ap (λ (p : State × machine.Answer). state_after x m p.0 (acts left)) stepped ∙ so_far.ends
+      stepped : (state next, said kind.rules kind.plain answer) ≡ step x m (state_after x m Idle (acts at)) c
+      stepped = performs.stepped ∙ ap (λ y. step y m (state run) c) (so_far.keeps.setting_stays ∙ same) ∙ ap (λ s. step x m s c) (sym so_far.stands)
 
-      past : drop end next.cells.now ≡ drop end cells
-      past =
-          ap (λ (s : State). drop (needed (block_size s)) next.cells.now) (sym ends)
-          ∙ past_end x m (state next) (acts left) before.cells.now next.cells.now (rw (size_is next) performs.past)
-          ∙ ap (λ (s : State). drop (needed (block_size s)) before.cells.now) ends
-          ∙ so_far.past
+      more_replies : replies x m (acts (at + 1)) ≡ replies x m (acts at) ++ ((step x m (state_after x m Idle (acts at)) c).1 ∷ [])
+      more_replies = ap (replies x m) more_acts ∙ ap (map (λ (e : Entry). e.answer)) (transcript_joined x m Idle (acts at) (c ∷ [])) ∙ map-append (λ (e : Entry). e.answer) (transcript x m Idle (acts at)) _
 
-  -- one turn of the loop, by what the iterator gave and what was kept of the answer
-  pub took : (P : Type 0) (before next : Run V R kind) (answers : List (Result (Answer R) Refusal)) (call : Call R) (answer : Result (Answer R) Refusal) (left rest : List (Call R)) (o : Option (Bor (Call R)))
-      → InPlay before answers left → MatchOption o P (λ y. left ≡ y.now ∷ rest) → Some call ≡ option_copied o
-      → Performs m (asked kind.rules kind.plain call) (said kind.rules kind.plain answer) before next → InPlay next (answers ++ answer ∷ []) rest
-  took P before next answers call answer left rest o so_far gave is performs = goes_on before next answers call answer rest (subst (InPlay before answers) (next_is P left rest call o gave is) so_far) performs
+      past : drop (at + 1) (set answers at answer) ≡ drop (at + 1) before
+      past = drop-set-lt (at + 1) answers at answer (omega arith) ∙ sym (drop-drop 1 at answers) ∙ ap (drop 1) so_far.rest ∙ drop-drop 1 at before
 
-  pub noted : (run : Run V R kind) (answers answers' : List (Result (Answer R) Refusal)) (left : List (Call R)) → InPlay run answers left → answers' ≡ answers → InPlay run answers' left
-  noted run answers answers' left so_far e = subst (λ answers. InPlay run answers left) (sym e) so_far
+  -- what was told in all
+  module _ (answers : List (Result (Answer R) Refusal)) (at : ℕ) (told_all : saids (take at answers) ≡ replies x m (acts at)) where
+    log_is : log_of kind.rules kind.plain (take at calls) (take at answers) ≡ transcript x m Idle (acts at)
+    log_is = ap (entries (acts at)) told_all ∙ entries_are x m Idle (acts at)
 
-  pub all_told : (P : Type 0) (Q : Bor (Call R) → Type 0) (run : Run V R kind) (answers : List (Result (Answer R) Refusal)) (left : List (Call R)) (o : Option (Bor (Call R)))
-      → InPlay run answers left → MatchOption o ((length left ≡ 0) × P) Q → ◌≡◌ {A = Option (Call R)} None (option_copied o) → saids answers ≡ replies x m (acts calls)
-  all_told P Q run answers left o so_far gave is = let done = subst (InPlay run answers) (none_left P Q left o gave is) so_far in sym (append-nil (saids answers)) ∙ done.told
+    pub law_told : Law m (transcript x m Idle (acts at)) → Law m (log_of kind.rules kind.plain (take at calls) (take at answers))
+    law_told law = subst (Law m) (sym log_is) law
 
-  pub law_told : (answers : List (Result (Answer R) Refusal)) → saids answers ≡ replies x m (acts calls) → Law m (transcript x m Idle (acts calls)) → Law m (entries (acts calls) (saids answers))
-  law_told answers told law = subst (Law m) (sym (ap (entries (acts calls)) told ∙ entries_are x m Idle (acts calls))) law
+    pub decisions_told : TellsDecisions kind.rules kind.plain at calls answers
+    decisions_told i cell lt e =
+        ap (λ log. answered log i) log_is
+        ∙ answered_at x m Idle (acts at) i (shows kind.rules kind.plain cell)
+        (ap (λ all. slice_get all i) (sym told_all) ∙ slice_get-map (said kind.rules kind.plain) (take at answers) i ∙ ap (option_map (said kind.rules kind.plain)) (taken answers at i _ lt e))
 
-  pub all_left : (P : Type 0) (Q : Bor (Call R) → Type 0) (run : Run V R kind) (answers : List (Result (Answer R) Refusal)) (left : List (Call R)) (o : Option (Bor (Call R)))
-      → InPlay run answers left → MatchOption o ((length left ≡ 0) × P) Q → ◌≡◌ {A = Option (Call R)} None (option_copied o) → state run ≡ state_after x m Idle (acts calls)
-  all_left P Q run answers left o so_far gave is = let done = subst (InPlay run answers) (none_left P Q left o gave is) so_far in done.ends
+  -- past the cells of the block that there is at the end, all is as before
+  pub past_end : (first run : Run V R kind) (before answers : List (Result (Answer R) Refusal)) (at : ℕ) → InPlay first run before answers at → first.cells.now ≡ cells
+      → drop (needed (block_size (state_after x m Idle (acts at)))) run.cells.now ≡ drop (needed (block_size (state_after x m Idle (acts at)))) cells
+  past_end first run before answers at play same =
+      let size : block_size (state_after x m Idle (acts at)) ≡ size_of run.turn = ap block_size play.stands ∙ size_is run in
+      rw size (play.keeps.past ∙ ap (drop (needed (size_of run.turn))) same)

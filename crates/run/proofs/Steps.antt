@@ -1,16 +1,13 @@
 -- What a seat, a forge and an open do to the cells, against the machine's step.
-use Rattle.std.proofs.Common.{◌≡◌, ℕ, ◌+◌, ◌*◌, ◌<◌, ◌≤◌, cond, nat_eq, ◌&&◌, arith, refl, ap, subst, List, None, Option, length, set, replicate}
+use Rattle.std.proofs.Common.{◌≡◌, ℕ, ◌+◌, ◌*◌, ◌<◌, ◌≤◌, cond, nat_eq, ◌&&◌, arith, refl, subst, List, None, Option, length, set, replicate}
 use Rattle.std.proofs.lemmas.Bool.Decides.{nat_tests}
 use Rattle.std.proofs.lemmas.List.{length-take-le}
 use Rattle.values.specs.Rules.{Rules}
 use Rattle.values.specs.Cells.{shows}
 use Rattle.models.specs.Laws.{Meaning}
-use Rattle.models.specs.declared.sets.Set.{Set}
 use Rattle.protocol.specs.Stages.{stage_of}
 use Rattle.protocol.specs.Machine as machine
 use Rattle.protocol.specs.Machine.{Setting, needed, forge_refusal, step}
-use Rattle.run.specs.declared.calls.Call.{Call}
-use Rattle.run.specs.declared.calls.Call.TheVariants.{Seat, Forge}
 use Rattle.run.specs.declared.calls.Place.{Place}
 use Rattle.run.specs.declared.turns.Turn.{Turn}
 use Rattle.run.specs.declared.turns.Turn.TheVariants.{Waiting, Seated}
@@ -19,7 +16,6 @@ use Rattle.run.specs.declared.turns.Seating.{Seating}
 use Rattle.run.specs.Turns.{size_of}
 use Rattle.run.specs.Stores.{store}
 use Rattle.run.specs.Views.{forged_in, view}
-use Rattle.run.specs.Calls.{asked}
 use Rattle.run.specs.Checks.{IsSeated, bare, bare_seating}
 use Rattle.run.proofs.Heard.{column_fits}
 use Rattle.run.proofs.Forging.{none_forged, one_forged}
@@ -28,15 +24,15 @@ use Rattle.run.proofs.Forging.{none_forged, one_forged}
 pub open_empties : {R : Type 0} (k : Rules) (plain : R → List ℕ) (n n' : ℕ) (after : List (Option R)) → n' ≡ n → (store n after).forged ≡ replicate (n * n * n) None → forged_in k plain n' (store n' after) ≡ (λ _ _ _. None)
 open_empties k plain n n' after n_is emptied = rw n_is (none_forged k plain n (store n after) (n * n * n) emptied)
 
-module _ {R : Type 0} (k : Rules) (plain : R → List ℕ) (turn : Turn) (call : Call R) (cells after : List (Option R)) (block : Block) where
-  module _ (set' : Set) (asks : call ≡ Seat set') (emptied : store block.n after ≡ record (store block.n cells) { forged = replicate (block.n * block.n * block.n) None }) where
-    pub seat_step : (x : Setting) (m : Meaning) (seating : Seating) → turn ≡ Waiting block → IsSeated m block set'.0 seating
-        → ◌≡◌ {A = machine.State × machine.Answer} (view k plain (Seated block seating) after, machine.Done) (step x m (view k plain turn cells) (asked k plain call))
+module _ {R : Type 0} (k : Rules) (plain : R → List ℕ) (turn : Turn) (cells after : List (Option R)) (block : Block) where
+  module _ (set : ℕ) (emptied : store block.n after ≡ record (store block.n cells) { forged = replicate (block.n * block.n * block.n) None }) where
+    pub seat_step : (x : Setting) (m : Meaning) (seating : Seating) → turn ≡ Waiting block → IsSeated m block set seating
+        → ◌≡◌ {A = machine.State × machine.Answer} (view k plain (Seated block seating) after, machine.Done) (step x m (view k plain turn cells) (machine.Seat set))
     seat_step x m seating at_turn fixed =
         let nothing = none_forged k plain block.n (record (store block.n cells) { forged = replicate (block.n * block.n * block.n) None }) (block.n * block.n * block.n) refl in
-        rw (at_turn, asks, emptied, fixed.accepted, fixed.set_is, fixed.classes, nothing) refl
+        rw (at_turn, emptied, fixed.accepted, fixed.set_is, fixed.classes, nothing) refl
 
-  module _ (seating : Seating) (place : Place) (cell : Option R) (at_turn : turn ≡ Seated block seating) (asks : call ≡ Forge place cell)
+  module _ (seating : Seating) (place : Place) (cell : Option R) (at_turn : turn ≡ Seated block seating)
       (accepted : forge_refusal (bare block) (bare_seating block seating) place.sender place.receiver place.column ≡ None) (roomy : needed (size_of turn) ≤ length cells)
       (put : store block.n after ≡ record (store block.n cells) { forged = set (store block.n cells).forged ((place.sender * block.n + place.receiver) * block.n + place.column) cell }) where
     one : forged_in k plain block.n (record (store block.n cells) { forged = set (store block.n cells).forged ((place.sender * block.n + place.receiver) * block.n + place.column) cell })
@@ -49,5 +45,6 @@ module _ {R : Type 0} (k : Rules) (plain : R → List ℕ) (turn : Turn) (call :
         let column_in = column_fits (stage_of block.n block.round) block.n place.column place.sender sender_in (grind (arith, nat_tests)) in
         one_forged k plain block.n (store block.n cells) size place.sender place.receiver place.column cell sender_in receiver_in column_in
 
-    pub forge_step : (x : Setting) (m : Meaning) → ◌≡◌ {A = machine.State × machine.Answer} (view k plain turn after, machine.Done) (step x m (view k plain turn cells) (asked k plain call))
-    forge_step x m = rw (at_turn, asks, put, accepted, one) refl
+    pub forge_step : (x : Setting) (m : Meaning)
+        → ◌≡◌ {A = machine.State × machine.Answer} (view k plain turn after, machine.Done) (step x m (view k plain turn cells) (machine.Forge place.sender place.receiver place.column (shows k plain cell)))
+    forge_step x m = rw (at_turn, put, accepted, one) refl

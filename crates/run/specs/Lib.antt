@@ -4,6 +4,8 @@ pub mod Views
 pub mod Hearing
 pub mod Closing
 pub mod Calls
+pub mod Dues
 pub mod Checks
 pub mod Runs
+pub mod Standing
 pub mod Promises

@@ -1,6 +1,7 @@
 -- What a run is, as the machine has it. Assumes nothing.
-use Rattle.std.specs.Prelude.{◌≡◌, ℕ, true, List, None, length, drop}
+use Rattle.std.specs.Prelude.{◌≡◌, ◌⊎◌, ℕ, true, List, None, Option, length, drop}
 use Rattle.values.specs.declared.kinds.Kind.{Ghosts}
+use Rattle.values.specs.Rules.{Rules}
 use Rattle.values.specs.Cells.{Held}
 use Rattle.models.specs.Laws.{Meaning}
 use Rattle.values.specs.declared.refusals.Refusal.{Refusal}
@@ -11,9 +12,13 @@ use Rattle.run.specs.Turns.{size_of}
 use Rattle.run.specs.Stores.{store}
 use Rattle.run.specs.Views.{forged_in, view}
 
+-- what a run over these cells has before any call
+abbrev pub setting_over : {R : Type 0} → Rules → List (Option R) → Setting
+setting_over k cells = record { cells = length cells; fallback = k.fallback }
+
 module _ {V R : Type 0} {kind : Ghosts V R} where
   abbrev pub setting : Run V R kind → Setting
-  setting r = record { cells = length r.cells.now; fallback = kind.rules.fallback }
+  setting r = setting_over kind.rules r.cells.now
 
   abbrev pub state : Run V R kind → State
   state r = view kind.rules kind.plain r.turn r.cells.now
@@ -39,6 +44,13 @@ module _ {V R : Type 0} {kind : Ghosts V R} where
     pub close_keeps : call ≡ Close → accepted answer ≡ true → forged_of after ≡ forged_of before
     -- the cells past the needed number are as they stood
     pub past : drop (needed (size_of after.turn)) after.cells.now ≡ drop (needed (size_of after.turn)) before.cells.now
-    -- the cells are those that were handed over, and as many
-    pub room : length after.cells.now ≡ length before.cells.now
+    -- the setting stays, and the cells are those that were handed over
+    pub setting_stays : setting after ≡ setting before
+    pub named : after.cells.ghost_name ≡ before.cells.ghost_name
+
+  -- what calls on a run leave as it was, whatever else they do: the size of a block that there is, the cells past the needed number, and the setting
+  pub record Keeps (before after : Run V R kind) : Type 0 where
+    pub size : (size_of before.turn ≡ 0) ⊎ (size_of after.turn ≡ size_of before.turn)
+    pub past : drop (needed (size_of after.turn)) after.cells.now ≡ drop (needed (size_of after.turn)) before.cells.now
+    pub setting_stays : setting after ≡ setting before
     pub named : after.cells.ghost_name ≡ before.cells.ghost_name

@@ -5,6 +5,7 @@ pub mod calls;
 mod checks;
 mod choosing;
 mod closing;
+mod dues;
 mod hearing;
 mod places;
 pub mod play;

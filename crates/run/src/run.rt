@@ -5,21 +5,18 @@ ghost use Rattle.run.specs.Turns.{size_of, begun};
 use crate::calls::{Answer, Call, Opening, Place};
 use crate::checks::{check_decision, check_forge, check_open, check_seat};
 use crate::closing;
+use crate::dues::Due;
 use crate::store::{clear_forged, decision_at, fill_opened, put_forged};
-use crate::turns::Turn;
+use crate::turns::{Block, Seating, Turn};
 use models::Model;
 use models::sets::Set;
-use models::standards::Standard;
 use protocol::theorems::{
-    decisions_agree, stamped_aware_runs_algorithm_2, stamped_carried_runs_algorithm_3,
-    unaware_runs_algorithm_1,
+    decisions_agree, rounds_under_any_counts, stamped_aware_runs_algorithm_2,
+    stamped_carried_runs_algorithm_3, the_machine_obeys_its_laws, unaware_runs_algorithm_1,
 };
 use values::cells::Cell;
 use values::kinds::Kind;
 use values::refusals::Refusal;
-
-// Only open and seat ask the model; the other calls go through `perform` with this one.
-const UNASKED: Standard = Standard::Fixed;
 
 /// A run over lent cells.
 #[derive(Drop)]
@@ -31,21 +28,22 @@ pub struct Run<'a, K: Kind> {
 }
 
 impl<'a, K: Kind> Run<'a, K> {
-    ghost use Rattle.std.specs.Prelude.{◌≡◌, ◌<◌};
+    ghost use Rattle.std.specs.Prelude.{◌≡◌, MatchResult, IfErr};
     ghost use Rattle.values.specs.Cells.{shows};
     ghost use Rattle.models.specs.Laws.{Meaning};
-    ghost use Rattle.run.specs.Promises.{Published, LawWith};
-    ghost use Rattle.run.specs.Stores.{store};
-    ghost use Rattle.run.specs.Views.{kept_in};
+    ghost use Rattle.run.specs.Dues.{IsOpen, IsDue};
+    ghost use Rattle.run.specs.Promises.{ClosesAnyRound, Published, PublishedAfter};
+    ghost use Rattle.run.specs.Standing.{LawWith};
     ghost use Rattle.protocol.specs.Machine as machine;
     ghost use Rattle.run.specs.Calls.{asked, said, said_done, said_cell};
-    ghost use Rattle.run.specs.Runs.{setting, state, Performs};
+    ghost use Rattle.run.specs.Runs.{setting_over, setting, state, Unaltered, Performs};
 
     /// A new run over the cells, which stay as they are.
     pub fn new(cells: &'a mut [Cell<K::Row>]) -> Run<'a, K>
         ensures named { result.cells.ghost_name ≡ cells.entry.ghost_name }
         ensures cells { result.cells.now ≡ cells.old }
         ensures idle { state result ≡ machine.Idle }
+        ensures setting { setting result ≡ setting_over K.rules cells.old }
     {
         Run {
             cells,
@@ -53,14 +51,81 @@ impl<'a, K: Kind> Run<'a, K> {
         }
     }
 
-    // The decision cell of a controller.
-    fn decision_cell(&self, n: usize, controller: usize) -> Cell<K::Row>
-        requires size { n ≤ 16 }
-        requires roomy { needed n ≤ length self.now.cells.now }
-        requires controller { controller < n }
-        ensures { shows K.rules K.plain result ≡ (kept_in K.rules K.plain n (store n self.now.cells.now) controller).decision }
+    // A call that comes at its turn, with what it finds there, or its refusal where it does not. It is here alone that a call
+    // meets the turn.
+    fn due<'c>(&self, call: Call<'c, K::Row>) -> Result<Due<'c, K::Row>, Refusal>
+        ensures { MatchResult result (λ due. IsDue call.entry self.now.turn due)
+            (λ why. (m : Meaning) → (state self.now, machine.Refused why) ≡ machine.step (setting self.now) m (state self.now) (asked K.rules K.plain call.entry)) }
     {
-        decision_at::<K>(self.cells, n, controller)
+        match (call, self.turn) {
+            (Call::Open(opening), Turn::Idle) => Ok(Due::Open(opening)),
+            (Call::Seat(set), Turn::Waiting(block)) => Ok(Due::Seat(block, set)),
+            (Call::Forge(place, cell), Turn::Seated(block, seating)) => {
+                Ok(Due::Forge(block, seating, place, cell))
+            }
+            (Call::Close, Turn::Seated(block, seating)) => Ok(Due::Close(block, seating)),
+            (Call::Decision(controller), Turn::Waiting(block) | Turn::Seated(block, _)) => {
+                Ok(Due::Decision(block, controller))
+            }
+            _ => Err(Refusal::OutOfTurn),
+        }
+    }
+
+    // An open of an idle run.
+    fn open_idle<M: Model>(&mut self, model: &M, opening: Opening<K::Row>) -> Result<(), Refusal>
+        requires { self.now.turn ≡ Turn.Idle }
+        ensures { Performs (M.meaning model.now) (asked K.rules K.plain (Call.Open opening.entry)) (said_done K.rules K.plain result) self.old self.new }
+    {
+        let room = self.cells.len();
+        let block = check_open::<K, M>(model, &opening, room)?;
+        fill_opened::<K>(self.cells, opening);
+        self.turn = Turn::Waiting(block);
+        Ok(())
+    }
+
+    // A seat of a block that waits.
+    fn seat_waiting<M: Model>(&mut self, model: &M, block: Block, set: Set) -> Result<(), Refusal>
+        requires { self.now.turn ≡ Turn.Waiting block }
+        ensures { Performs (M.meaning model.now) (machine.Seat set.0) (said_done K.rules K.plain result) self.old self.new }
+    {
+        let seating = check_seat(model, &block, set)?;
+        clear_forged(self.cells, block.n);
+        self.turn = Turn::Seated(block, seating);
+        Ok(())
+    }
+
+    // A forge in a round that is seated.
+    fn forge_seated(
+        &mut self,
+        block: Block,
+        seating: Seating,
+        place: Place,
+        cell: Cell<K::Row>,
+    ) -> Result<(), Refusal>
+        requires { self.now.turn ≡ Turn.Seated block seating }
+        ensures { (m : Meaning) → Performs m (asked K.rules K.plain (Call.Forge place cell)) (said_done K.rules K.plain result) self.old self.new }
+    {
+        check_forge(&block, &seating, place)?;
+        put_forged(self.cells, block.n, place, cell);
+        Ok(())
+    }
+
+    // A close of a round that is seated. None is refused.
+    fn close_seated(&mut self, block: Block, seating: Seating)
+        requires { self.now.turn ≡ Turn.Seated block seating }
+        ensures { (m : Meaning) → Performs m machine.Close machine.Done self.old self.new }
+    {
+        closing::close::<K>(self.cells, &block, &seating);
+        self.turn = Turn::Waiting(block.closed(seating.set));
+    }
+
+    // A decision of a block that waits or is seated.
+    fn decision_of(&self, block: Block, controller: usize) -> Result<Cell<K::Row>, Refusal>
+        requires { IsOpen block self.now.turn }
+        ensures { (m : Meaning) → (state self.now, said_cell K.rules K.plain result) ≡ machine.step (setting self.now) m (state self.now) (machine.Decision controller) }
+    {
+        check_decision(&block, controller)?;
+        Ok(decision_at::<K>(self.cells, block.n, controller))
     }
 
     /// Performs a call, under the model where the call is one that names it.
@@ -71,35 +136,27 @@ impl<'a, K: Kind> Run<'a, K> {
     ) -> Result<Answer<K::Row>, Refusal>
         ensures { Performs (M.meaning model.now) (asked K.rules K.plain call.entry) (said K.rules K.plain result) self.old self.new }
     {
-        match (call, self.turn) {
-            (Call::Open(opening), Turn::Idle) => {
-                let room = self.cells.len();
-                let block = check_open::<K, M>(model, &opening, room)?;
-                fill_opened::<K>(self.cells, opening);
-                self.turn = Turn::Waiting(block);
+        match self.due(call)? {
+            Due::Open(opening) => {
+                self.open_idle(model, opening)?;
                 Ok(Answer::Done)
             }
-            (Call::Seat(set), Turn::Waiting(block)) => {
-                let seating = check_seat(model, &block, set)?;
-                clear_forged(self.cells, block.n);
-                self.turn = Turn::Seated(block, seating);
+            Due::Seat(block, set) => {
+                self.seat_waiting(model, block, set)?;
                 Ok(Answer::Done)
             }
-            (Call::Forge(place, cell), Turn::Seated(block, seating)) => {
-                check_forge(&block, &seating, place)?;
-                put_forged(self.cells, block.n, place, cell);
+            Due::Forge(block, seating, place, cell) => {
+                self.forge_seated(block, seating, place, cell)?;
                 Ok(Answer::Done)
             }
-            (Call::Close, Turn::Seated(block, seating)) => {
-                closing::close::<K>(self.cells, &block, &seating);
-                self.turn = Turn::Waiting(block.closed(seating.set));
+            Due::Close(block, seating) => {
+                self.close_seated(block, seating);
                 Ok(Answer::Done)
             }
-            (Call::Decision(controller), Turn::Waiting(block) | Turn::Seated(block, _)) => {
-                check_decision(&block, controller)?;
-                Ok(Answer::Decided(self.decision_cell(block.n, controller)))
+            Due::Decision(block, controller) => {
+                let cell = self.decision_of(block, controller)?;
+                Ok(Answer::Decided(cell))
             }
-            _ => Err(Refusal::OutOfTurn),
         }
     }
 
@@ -123,38 +180,51 @@ impl<'a, K: Kind> Run<'a, K> {
 
     /// Puts a cell, filled or empty, at a place of a forged message.
     pub fn forge(&mut self, place: Place, cell: Cell<K::Row>) -> Result<(), Refusal>
-        ensures { (m : Meaning) → Performs m (machine.Forge place.sender place.receiver place.column (shows K.rules K.plain cell)) (said_done K.rules K.plain result) self.old self.new }
+        ensures performed { (m : Meaning) → Performs m (machine.Forge place.sender place.receiver place.column (shows K.rules K.plain cell)) (said_done K.rules K.plain result) self.old self.new }
+        ensures refused { IfErr result (λ _. Unaltered self.old self.new) }
+        ensures stays { setting self.new ≡ setting self.old }
     {
         let call: Call<'a, K::Row> = Call::Forge(place, cell);
-        self.perform(&UNASKED, call)?;
-        Ok(())
+        match self.due(call)? {
+            Due::Forge(block, seating, ..) => self.forge_seated(block, seating, place, cell),
+            _ => unreachable!(),
+        }
     }
 
-    /// Ends a round: every unseated controller computes from what was sent.
+    /// Ends a round: every unseated controller computes from what was sent. It is refused only where no round is seated.
     pub fn close(&mut self) -> Result<(), Refusal>
         ensures performed { (m : Meaning) → Performs m machine.Close (said_done K.rules K.plain result) self.old self.new }
+        ensures any_counts { ClosesAnyRound (setting self.old) (state self.old) (state self.new) }
         ensures published { Published (setting self.old) (state self.old) (state self.new) }
+        ensures after_calls { PublishedAfter self.old self.new }
+        ensures refused { IfErr result (λ _. Unaltered self.old self.new) }
+        ensures stays { setting self.new ≡ setting self.old }
     {
-        // These do nothing; they are the theorems that `published` rests on.
+        // These do nothing; they are the theorems that these promises rest on.
+        rounds_under_any_counts();
         unaware_runs_algorithm_1();
         stamped_aware_runs_algorithm_2();
         stamped_carried_runs_algorithm_3();
+        the_machine_obeys_its_laws();
         let call: Call<'a, K::Row> = Call::Close;
-        self.perform(&UNASKED, call)?;
+        match self.due(call)? {
+            Due::Close(block, seating) => self.close_seated(block, seating),
+            _ => unreachable!(),
+        }
         Ok(())
     }
 
     /// The decision of a controller.
-    pub fn decision(&mut self, controller: usize) -> Result<Cell<K::Row>, Refusal>
-        ensures performed { (m : Meaning) → Performs m (machine.Decision controller) (said_cell K.rules K.plain result) self.old self.new }
-        ensures law { LawWith (setting self.old) (state self.old) (machine.Decision controller) (said_cell K.rules K.plain result) }
+    pub fn decision(&self, controller: usize) -> Result<Cell<K::Row>, Refusal>
+        ensures performed { (m : Meaning) → Performs m (machine.Decision controller) (said_cell K.rules K.plain result) self.now self.now }
+        ensures law { LawWith self.now (machine.Decision controller) (said_cell K.rules K.plain result) }
     {
         // This does nothing; it is the theorem that `law` rests on.
         decisions_agree();
         let call: Call<'a, K::Row> = Call::Decision(controller);
-        match self.perform(&UNASKED, call)? {
-            Answer::Decided(cell) => Ok(cell),
-            Answer::Done => unreachable!(),
+        match self.due(call)? {
+            Due::Decision(block, _) => self.decision_of(block, controller),
+            _ => unreachable!(),
         }
     }
 }
