@@ -14,7 +14,7 @@ use Rattle.protocol.specs.Machine.{Setting, State, Decision, Answer, Done, Decid
 use Rattle.run_file.specs.declared.headers.Header.{Header}
 use Rattle.run_file.specs.Texts.{shown, controller_lines}
 use Rattle.run_file.specs.Listings.{setting_of, listing}
-use Rattle.run_file.specs.Promises.{HasLines}
+use Rattle.run_file.specs.Promises.{HasLines, says}
 
 -- the line feed, and bytes that are none
 abbrev feed : ℕ → Bool
@@ -57,8 +57,8 @@ cut_line : (words rest : List ℕ) → All NoFeed words → slice_split feed ((w
 cut_line words rest p = ap (slice_split feed) (append_assoc words (10 ∷ []) rest) ∙ slice_split_at feed words 10 rest p refl
 
 module _ (x : Setting) (m : Meaning) (s : State) where
-  abbrev words_of : ℕ → List ℕ
-  words_of i = decimal i ++ (32 ∷ shown (step x m s (Decision i)).1)
+  abbrev pub words_of : ℕ → List ℕ
+  words_of i = says i (shown (step x m s (Decision i)).1)
 
   words_plain : (i : ℕ) → All NoFeed (words_of i)
   words_plain i = All-append NoFeed (decimal i) (32 ∷ shown (step x m s (Decision i)).1) (decimal_plain i) (All-cons NoFeed 32 (shown (step x m s (Decision i)).1) refl (shown_plain (step x m s (Decision i)).1))
@@ -81,17 +81,21 @@ module _ (x : Setting) (m : Meaning) (s : State) where
       ∙ ap (λ parts. words ∷ parts) (cut_lines n [])
 
 module _ (k : Rules) (m : Meaning) (cells : ℕ) (h : Header) (s : State) where
-  -- the lines of a listing
-  pub listing_lines : HasLines (listing k m cells h s) (map (λ i. decimal i ++ (32 ∷ shown (step (setting_of k cells) m s (Decision i)).1)) (range_with_len 0 h.n))
+  -- the lines of a listing after its first
+  abbrev pub lines_told : List (List ℕ)
+  lines_told = map (words_of (setting_of k cells) m s) (range_with_len 0 h.n)
+
+  pub cut_told : HasLines (listing k m cells h s) lines_told
   unfolding listing
-  listing_lines = record {
+  cut_told = record {
     first = codes "run " ++ text (h.n ∷ h.t ∷ h.rounds ∷ []);
     cut = cut_all (setting_of k cells) m s (codes "run " ++ text (h.n ∷ h.t ∷ h.rounds ∷ [])) h.n
         (All-append NoFeed (codes "run ") (text (h.n ∷ h.t ∷ h.rounds ∷ [])) (All-from_recursion NoFeed (codes "run ") (refl, (refl, (refl, (refl, tt))))) (text_plain (h.n ∷ h.t ∷ h.rounds ∷ [])));
   }
 
-  pub length_of : length (map (λ i. decimal i ++ (32 ∷ shown (step (setting_of k cells) m s (Decision i)).1)) (range_with_len 0 h.n)) ≡ h.n
-  length_of = length-map-range_with_len (λ i. decimal i ++ (32 ∷ shown (step (setting_of k cells) m s (Decision i)).1)) 0 h.n
+  pub count_told : length lines_told ≡ h.n
+  count_told = length-map-range_with_len (words_of (setting_of k cells) m s) 0 h.n
 
-  pub line_at : (i : ℕ) → i < h.n → slice_index_or (map (λ i. decimal i ++ (32 ∷ shown (step (setting_of k cells) m s (Decision i)).1)) (range_with_len 0 h.n)) i [] ≡ decimal i ++ (32 ∷ shown (step (setting_of k cells) m s (Decision i)).1)
-  line_at i p = get_or-map-range_with_len (λ i. decimal i ++ (32 ∷ shown (step (setting_of k cells) m s (Decision i)).1)) 0 h.n i i [] p (omega arith)
+  -- a controller's line says what its decision answers
+  pub line_told : (i : ℕ) → i < h.n → (answer : Answer) → (step (setting_of k cells) m s (Decision i)).1 ≡ answer → slice_index_or lines_told i [] ≡ says i (shown answer)
+  line_told i p answer e = get_or-map-range_with_len (words_of (setting_of k cells) m s) 0 h.n i i [] p (omega arith) ∙ ap (λ answer. says i (shown answer)) e

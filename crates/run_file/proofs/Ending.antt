@@ -1,6 +1,7 @@
 -- What a decision answers after a file's calls: it is refused to the members of the last set, and to no other controller.
-use Rattle.std.proofs.Common.{◌≡◌, ℕ, zero, suc, ◌+◌, ◌*◌, ◌<◌, arith, refl, ap, ◌∙◌, Bool, true, false, leb, List, [], ◌∷◌, ◌++◌, map, take, drop, None, Some, Option, Ok, slice_index}
+use Rattle.std.proofs.Common.{◌≡◌, ℕ, zero, suc, ◌+◌, ◌*◌, ◌<◌, arith, refl, ap, ◌∙◌, Bool, true, false, leb, List, [], ◌∷◌, ◌++◌, map, take, drop, None, Some, Option, Ok, slice_index, slice_index_or}
 use Rattle.std.proofs.lemmas.Bool.Decides.{nat_tests}
+use Rattle.std.proofs.lemmas.Simd.{map-map}
 use Rattle.std.proofs.lemmas.List.{get_or-take, get_or-drop, drop-drop}
 use Rattle.values.specs.declared.refusals.Refusal.{Refusal}
 use Rattle.values.specs.declared.refusals.Refusal.TheVariants.{WasSeated}
@@ -33,54 +34,62 @@ use Rattle.protocol.specs.Machine.{
   step,
 }
 use Rattle.run_file.specs.declared.headers.Header.{Header}
-use Rattle.run_file.specs.Files.{byte, word, pieces, proposals, initial_set, round_sets, sets_start, forgery_lines}
+use Rattle.run_file.specs.Files.{byte, word, pieces, proposals, initial_set, round_sets, sets_start, laid_out, forgery_lines}
 use Rattle.run_file.specs.Lines.{Line, line, cell_of}
 use Rattle.run_file.specs.Votes.{Asked, in_round, forges, lines_of, rounds_from, stopped, unless_stopped, run_through}
 use Rattle.run_file.specs.Listings.{setting_of, calls_of}
+use Rattle.run_file.specs.Promises.{first_set, set_in, last_set, proposal_in}
 
--- n words one behind the other, from a place on
-abbrev words_at : List ℕ → (n at : ℕ) → List ℕ
-words_at bytes zero at = []
-words_at bytes (suc n) at = word bytes at ∷ words_at bytes n (at + 2)
+-- what is read off piece i of some that lie one behind the other, from a place on
+piece_at : {A : Type 0} (f : List ℕ → A) (none : A) (width : ℕ) (bytes : List ℕ) (n at i : ℕ) → i < n → slice_index_or (map f (pieces width n (drop at bytes))) i none ≡ f (take width (drop (at + width * i) bytes))
+piece_at f none width bytes zero at i lt = absurd (omega arith)
+piece_at f none width bytes (suc n) at zero lt = ap (λ at. f (take width (drop at bytes))) (omega arith)
+piece_at f none width bytes (suc n) at (suc i) lt =
+    ap (λ rest. slice_index_or (map f (pieces width n rest)) i none) (drop-drop width at bytes)
+    ∙ piece_at f none width bytes n (at + width) i (omega arith)
+    ∙ ap (λ at. f (take width (drop at bytes))) (omega arith)
 
-word_at : (bytes : List ℕ) (n at r : ℕ) → r < n → slice_index (words_at bytes n at) r ≡ word bytes (at + 2 * r)
-word_at bytes zero at r lt = absurd (omega arith)
-word_at bytes (suc n) at zero lt = ap (word bytes) (omega arith)
-word_at bytes (suc n) at (suc r) lt = word_at bytes n (at + 2) r (omega arith) ∙ ap (word bytes) (omega arith)
-
--- those are what pieces of two bytes hold
+-- a piece of two bytes is a word
 piece_word : (bytes : List ℕ) (at : ℕ) → word (take 2 (drop at bytes)) 0 ≡ word bytes at
 piece_word bytes at =
     let low : byte (take 2 (drop at bytes)) 0 ≡ byte bytes at = get_or-take 2 (drop at bytes) 0 0 (omega arith) ∙ get_or-drop at bytes 0 0 ∙ ap (byte bytes) (omega arith) in
     let high : byte (take 2 (drop at bytes)) 1 ≡ byte bytes (at + 1) = get_or-take 2 (drop at bytes) 1 0 (omega arith) ∙ get_or-drop at bytes 1 0 in
     omega arith
 
-pieces_words : (bytes : List ℕ) (n at : ℕ) → map (λ two. word two 0) (pieces 2 n (drop at bytes)) ≡ words_at bytes n at
-pieces_words bytes zero at = refl
-pieces_words bytes (suc n) at =
-    let next : drop 2 (drop at bytes) ≡ drop (at + 2) bytes = drop-drop 2 at bytes in
-    let rest : map (λ two. word two 0) (pieces 2 n (drop 2 (drop at bytes))) ≡ words_at bytes n (at + 2) = ap (λ ys. map (λ two. word two 0) (pieces 2 n ys)) next ∙ pieces_words bytes n (at + 2) in
-    ap (λ w. w ∷ map (λ two. word two 0) (pieces 2 n (drop 2 (drop at bytes)))) (piece_word bytes at) ∙ ap (λ ws. word bytes at ∷ ws) rest
+-- the sets and the proposals that are read stand at their places in the file
+module _ (k : Rules) (h : Header) (bytes : List ℕ) (laid : laid_out k.width h bytes ≡ true) where
+  sets_there : sets_start k.width h ≡ h.sets_at
+  sets_there = grind (arith, nat_tests)
 
--- the set of round r is word r + 1 of the sets
-pub file_set : (width : ℕ) (h : Header) (bytes : List ℕ) (r : ℕ) → r < h.rounds → slice_index (round_sets width h bytes) r ≡ word bytes (sets_start width h + 2 * (r + 1))
-file_set width h bytes r lt =
-    let start = sets_start width h in
-    ap (λ sets. slice_index sets r) (pieces_words bytes h.rounds (start + 2)) ∙ word_at bytes h.rounds (start + 2) r lt ∙ ap (word bytes) (omega arith)
+  pub file_first : initial_set k.width h bytes ≡ first_set h bytes
+  file_first = ap (word bytes) sets_there
+
+  pub file_set : (r : ℕ) → r < h.rounds → slice_index (round_sets k.width h bytes) r ≡ set_in h bytes r
+  file_set r lt =
+      piece_at (λ two. word two 0) 0 2 bytes h.rounds (sets_start k.width h + 2) r lt
+      ∙ piece_word bytes (sets_start k.width h + 2 + 2 * r)
+      ∙ ap (word bytes) (omega (arith, sets_there))
+
+  pub file_proposal : (i : ℕ) → i < h.n → slice_index_or (map Some (map words (proposals k.width h bytes))) i None ≡ Some (proposal_in k h bytes i)
+  file_proposal i lt =
+      let there : 16 ≡ h.proposals_at = grind (arith, nat_tests) in
+      ap (λ values. slice_index_or values i None) (map-map Some words (proposals k.width h bytes))
+      ∙ piece_at (λ value. Some (words value)) None k.width bytes h.n 16 i lt
+      ∙ ap (λ at. Some (words (take k.width (drop (at + k.width * i) bytes)))) there
 
 -- the last of some sets, or the one before them where there is none
 abbrev last_of : ℕ → List ℕ → ℕ
 last_of set [] = set
 last_of set (next ∷ sets) = last_of next sets
 
-last_word : (bytes : List ℕ) (n at : ℕ) → last_of (word bytes at) (words_at bytes n (at + 2)) ≡ word bytes (at + 2 * n)
+last_word : (bytes : List ℕ) (n at : ℕ) → last_of (word bytes at) (map (λ two. word two 0) (pieces 2 n (drop (at + 2) bytes))) ≡ word bytes (at + 2 * n)
 last_word bytes zero at = ap (word bytes) (omega arith)
-last_word bytes (suc n) at = last_word bytes n (at + 2) ∙ ap (word bytes) (omega arith)
-
-file_last : (width : ℕ) (h : Header) (bytes : List ℕ) → last_of (initial_set width h bytes) (round_sets width h bytes) ≡ word bytes (sets_start width h + 2 * h.rounds)
-file_last width h bytes =
-    let start = sets_start width h in
-    ap (last_of (word bytes start)) (pieces_words bytes h.rounds (start + 2)) ∙ last_word bytes h.rounds start
+last_word bytes (suc n) at =
+    let rest = pieces 2 n (drop 2 (drop (at + 2) bytes)) in
+    ap (λ set. last_of set (map (λ two. word two 0) rest)) (piece_word bytes (at + 2))
+    ∙ ap (λ bytes_left. last_of (word bytes (at + 2)) (map (λ two. word two 0) (pieces 2 n bytes_left))) (drop-drop 2 (at + 2) bytes)
+    ∙ last_word bytes n (at + 2)
+    ∙ ap (word bytes) (omega arith)
 
 module _ (x : Setting) (m : Meaning) where
   -- a call that is not refused, with the calls after it
@@ -117,32 +126,24 @@ module _ (x : Setting) (m : Meaning) where
       let same : has w.0.last i ≡ member = ap (λ last. has last i) w.3 ∙ is in
       rw (w.1, below, same) refl
 
--- the calls of a file that are all accepted leave its block waiting, with the last set of the file
-file_waits : (k : Rules) (m : Meaning) (cells : ℕ) (h : Header) (bytes : List ℕ) (s : State) → run_through (setting_of k cells) m Idle (calls_of k h bytes) ≡ Ok s
-    → Waits (setting_of k cells) m h.n (word bytes (sets_start k.width h + 2 * h.rounds)) s
-file_waits k m cells h bytes s e =
-    let x = setting_of k cells in
-    let values = map words (proposals k.width h bytes) in
-    let initial = initial_set k.width h bytes in
-    let sets = round_sets k.width h bytes in
-    let lines = map line (forgery_lines k.width h bytes) in
-    let b = opened m h.n h.t values initial in
-    let w = rounds_end x m 0 sets lines b s (goes_on x m (open_refusal x m h.n h.t values initial) Idle (Waiting b) s None (rounds_from 0 sets lines) e) in
-    (w.0, w.1, w.2, w.3 ∙ file_last k.width h bytes)
+-- a file whose calls are all accepted
+module _ (k : Rules) (m : Meaning) (cells : ℕ) (h : Header) (bytes : List ℕ) (laid : laid_out k.width h bytes ≡ true) (s : State) (ran : run_through (setting_of k cells) m Idle (calls_of k h bytes) ≡ Ok s) where
+  -- its block waits, with the last set of the file
+  waits : Waits (setting_of k cells) m h.n (last_set h bytes) s
+  waits =
+      let x = setting_of k cells in
+      let values = map words (proposals k.width h bytes) in
+      let initial = initial_set k.width h bytes in
+      let sets = round_sets k.width h bytes in
+      let lines = map line (forgery_lines k.width h bytes) in
+      let b = opened m h.n h.t values initial in
+      let w = rounds_end x m 0 sets lines b s (goes_on x m (open_refusal x m h.n h.t values initial) Idle (Waiting b) s None (rounds_from 0 sets lines) ran) in
+      (w.0, w.1, w.2, w.3 ∙ last_word bytes h.rounds (sets_start k.width h) ∙ ap (λ at. word bytes (at + 2 * h.rounds)) (sets_there k h bytes laid))
 
--- where all calls of a file are accepted, a decision is refused to the members of the last set
-pub seated_last : (k : Rules) (m : Meaning) (cells : ℕ) (h : Header) (bytes : List ℕ) (s : State)
-    → run_through (setting_of k cells) m Idle (calls_of k h bytes) ≡ Ok s
-    → (i : ℕ) → i < h.n → has (word bytes (sets_start k.width h + 2 * h.rounds)) i ≡ true
-    → (step (setting_of k cells) m s (Decision i)).1 ≡ Refused WasSeated
-seated_last k m cells h bytes s e i lt is =
-    decides (setting_of k cells) m h.n (word bytes (sets_start k.width h + 2 * h.rounds)) s i true (file_waits k m cells h bytes s e) lt is
+  -- a decision is refused to the members of the last set
+  pub seated_last : (i : ℕ) → i < h.n → has (last_set h bytes) i ≡ true → (step (setting_of k cells) m s (Decision i)).1 ≡ Refused WasSeated
+  seated_last i lt is = decides (setting_of k cells) m h.n (last_set h bytes) s i true waits lt is
 
--- and each other controller is answered a cell
-pub free_last : (k : Rules) (m : Meaning) (cells : ℕ) (h : Header) (bytes : List ℕ) (s : State)
-    → run_through (setting_of k cells) m Idle (calls_of k h bytes) ≡ Ok s
-    → (i : ℕ) → i < h.n → has (word bytes (sets_start k.width h + 2 * h.rounds)) i ≡ false
-    → (cell : Held) × ((step (setting_of k cells) m s (Decision i)).1 ≡ Decided cell)
-free_last k m cells h bytes s e i lt is =
-    let w = file_waits k m cells h bytes s e in
-    ((w.0.memory i).decision, decides (setting_of k cells) m h.n (word bytes (sets_start k.width h + 2 * h.rounds)) s i false w lt is)
+  -- and each other controller is answered a cell
+  pub free_last : (i : ℕ) → i < h.n → has (last_set h bytes) i ≡ false → (cell : Held) × ((step (setting_of k cells) m s (Decision i)).1 ≡ Decided cell)
+  free_last i lt is = ((waits.0.memory i).decision, decides (setting_of k cells) m h.n (last_set h bytes) s i false waits lt is)

@@ -44,7 +44,7 @@ pub becomes_of : (c : Cells) (bytes : List ℕ) (h : Header) (kind : ValueKind) 
     → Becomes (IsVote (rules_of kind) h bytes) (of_kind c bytes h kind) result before after → Becomes (ListingLaw bytes) (with_header c bytes (header_of bytes)) result before after
 becomes_of c bytes h kind (Ok x) before after read is b =
     let same : with_header c bytes (header_of bytes) ≡ of_kind c bytes h kind = ap (with_header c bytes) read ∙ ap (of_kind c bytes h) is in
-    (b.0, same ∙ b.1, b.2, b.3, λ run. (h, read, subst (λ kind. IsVote (rules_of kind) h bytes b.0) (sym is) b.4))
+    (b.0, same ∙ b.1, b.2, b.3, b.4, λ run. (h, read, subst (λ kind. IsVote (rules_of kind) h bytes b.0) (sym is) b.5))
 becomes_of c bytes h kind (Err stop) before after read is b =
     let same : with_header c bytes (header_of bytes) ≡ of_kind c bytes h kind = ap (with_header c bytes) read ∙ ap (of_kind c bytes h) is in
     (same ∙ b.0, b.1)

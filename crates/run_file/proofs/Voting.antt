@@ -1,5 +1,5 @@
 -- Calls on a run, one behind the other.
-use Rattle.std.proofs.Common.{◌≡◌, ◌<◌, ℕ, zero, suc, arith, refl, sym, ap, subst, ◌∙◌, true, eqb, List, [], ◌∷◌, ◌++◌, map, drop, Option, Result, inl, inr, ◌⊎◌, Ok, Err}
+use Rattle.std.proofs.Common.{◌≡◌, ◌<◌, ℕ, suc, arith, refl, ap, subst, ◌∙◌, true, eqb, List, [], ◌∷◌, ◌++◌, map, drop, Option, Result, inl, inr, ◌⊎◌, Ok, Err}
 use Rattle.std.specs.Prelude.{⊤}
 use Rattle.std.proofs.lemmas.Bool.Decides.{nat_tests}
 use Rattle.values.specs.declared.kinds.Kind.{Ghosts}
@@ -10,32 +10,13 @@ use Rattle.protocol.specs.Machine.{State, Call, Forge, Answer, needed}
 use Rattle.run.specs.declared.run.Run.{Run}
 use Rattle.run.specs.Turns.{size_of}
 use Rattle.run.specs.Calls.{said_done}
-use Rattle.run.specs.Runs.{setting, state, Performs}
-use Rattle.run.specs.Promises.{block_size}
-use Rattle.run.proofs.Sizes.{step_size, size_is}
+use Rattle.run.specs.Runs.{setting, state, Performs, Keeps}
 use Rattle.run_file.specs.Lines.{Line, cell_of}
 use Rattle.run_file.specs.Votes.{Asked, forges, lines_of, round_of, rounds_from, stopped, unless_stopped, run_through}
 use Rattle.run_file.specs.declared.stops.Stop.{Stop}
-use Rattle.run_file.specs.InCode.{stop_at, Keeps, GoesOn, Stops}
+use Rattle.run_file.specs.InCode.{stop_at, GoesOn, Stops}
 
 module _ {V R : Type 0} {kind : Ghosts V R} where
-  pub keeps_more : (a b c : Run V R kind) → Keeps a b → Keeps b c → Keeps a c
-  keeps_more a b c p q = record {
-    size = sizes p.size q.size;
-    past = q.past ∙ further q.size;
-    room = q.room ∙ p.room;
-    named = q.named ∙ p.named;
-  }
-    where
-      sizes : (size_of a.turn ≡ 0) ⊎ (size_of b.turn ≡ size_of a.turn) → (size_of b.turn ≡ 0) ⊎ (size_of c.turn ≡ size_of b.turn) → (size_of a.turn ≡ 0) ⊎ (size_of c.turn ≡ size_of a.turn)
-      sizes (inl none) f = inl none
-      sizes (inr e) (inl none) = inl (sym e ∙ none)
-      sizes (inr e) (inr f) = inr (f ∙ e)
-
-      further : (size_of b.turn ≡ 0) ⊎ (size_of c.turn ≡ size_of b.turn) → drop (needed (size_of c.turn)) b.cells.now ≡ drop (needed (size_of c.turn)) a.cells.now
-      further (inl none) = ap (drop (needed (size_of c.turn))) (subst (λ n. drop (needed n) b.cells.now ≡ drop (needed n) a.cells.now) none p.past)
-      further (inr same) = subst (λ n. drop (needed n) b.cells.now ≡ drop (needed n) a.cells.now) (sym same) p.past
-
   -- past the cells of a block that is there all is as before it was opened
   pub past_block : (a b c : Run V R kind) → Keeps a b → Keeps b c → 0 < size_of b.turn → drop (needed (size_of b.turn)) c.cells.now ≡ drop (needed (size_of b.turn)) a.cells.now
   past_block a b c p q some = go q.size ∙ p.past
@@ -43,16 +24,6 @@ module _ {V R : Type 0} {kind : Ghosts V R} where
       go : (size_of b.turn ≡ 0) ⊎ (size_of c.turn ≡ size_of b.turn) → drop (needed (size_of b.turn)) c.cells.now ≡ drop (needed (size_of b.turn)) b.cells.now
       go (inl none) = absurd (omega (arith, none, some))
       go (inr same) = subst (λ n. drop (needed n) c.cells.now ≡ drop (needed n) b.cells.now) same q.past
-
-  pub performs_keeps : (m : Meaning) (call : Call) (answer : Answer) (a b : Run V R kind) → Performs m call answer a b → Keeps a b
-  performs_keeps m call answer a b p = record { size = go (size_of a.turn) refl; past = p.past; room = p.room; named = p.named }
-    where
-      go : (n : ℕ) → size_of a.turn ≡ n → (size_of a.turn ≡ 0) ⊎ (size_of b.turn ≡ size_of a.turn)
-      go zero e = inl e
-      go (suc k) e = inr (sym (size_is b) ∙ ap (λ q. block_size q.0) p.stepped ∙ step_size (setting a) m k (state a) call (size_is a ∙ e) ∙ sym e)
-
-  pub same_setting : (a b : Run V R kind) → Keeps a b → setting b ≡ setting a
-  same_setting a b p = ap (λ n. record { cells = n; fallback = kind.rules.fallback }) p.room
 
   -- a call that is performed, and one that is refused
   pub done : (m : Meaning) (call : Call) (round : Option ℕ) (a b : Run V R kind) (answer : Result ⊤ Refusal) → Performs m call (said_done kind.rules kind.plain answer) a b → stop_at round answer ≡ Ok tt
@@ -73,13 +44,13 @@ module _ {V R : Type 0} {kind : Ghosts V R} where
       → (more : List Asked) → run_through (setting a) m (state b) (map forges (lines_of r all) ++ more) ≡ run_through (setting a) m (state c) (map forges (lines_of r xs) ++ more)
   forge_done m a b c r all xs x is of_round keeps p more =
       let same : eqb x.round r ≡ true = grind (arith, nat_tests) in
-      rw (is, same) (subst (λ s. run_through s m (state b) (forges x ∷ (map forges (lines_of r xs) ++ more)) ≡ run_through s m (state c) (map forges (lines_of r xs) ++ more)) (same_setting a b keeps) (p (map forges (lines_of r xs) ++ more)))
+      rw (is, same) (subst (λ s. run_through s m (state b) (forges x ∷ (map forges (lines_of r xs) ++ more)) ≡ run_through s m (state c) (map forges (lines_of r xs) ++ more)) keeps.setting_stays (p (map forges (lines_of r xs) ++ more)))
 
   pub forge_refused : (m : Meaning) (a b : Run V R kind) (r : ℕ) (all xs : List Line) (x : Line) (stop : Stop) → all ≡ x ∷ xs → x.round ≡ r → Keeps a b → Stops m (forges x ∷ []) b stop
       → (more : List Asked) → run_through (setting a) m (state b) (map forges (lines_of r all) ++ more) ≡ Err stop
   forge_refused m a b r all xs x stop is of_round keeps p more =
       let same : eqb x.round r ≡ true = grind (arith, nat_tests) in
-      rw (is, same) (subst (λ s. run_through s m (state b) (forges x ∷ (map forges (lines_of r xs) ++ more)) ≡ Err stop) (same_setting a b keeps) (p (map forges (lines_of r xs) ++ more)))
+      rw (is, same) (subst (λ s. run_through s m (state b) (forges x ∷ (map forges (lines_of r xs) ++ more)) ≡ Err stop) keeps.setting_stays (p (map forges (lines_of r xs) ++ more)))
 
 -- the call that a line asks for
 pub forge_call : (x : Line) (sender receiver column : ℕ) (cell : Held) → sender ≡ x.sender → receiver ≡ x.receiver → column ≡ x.column → cell ≡ cell_of x → Forge sender receiver column cell ≡ (forges x).call
@@ -91,5 +62,5 @@ module _ {V R : Type 0} {kind : Ghosts V R} where
       → ((sets : List ℕ) → rounds_from (suc r) sets lines ≡ rounds_from (suc r) sets rest)
       → run_through (setting a) m (state b) (rounds_from r all lines) ≡ run_through (setting a) m (state c) (rounds_from next sets rest)
   rounds_done m a b c r next set sets all lines rest is is_all keeps did same =
-      rw (is, is_all) (subst (λ x. run_through x m (state b) (round_of r set lines ++ rounds_from (suc r) sets lines) ≡ run_through x m (state c) (rounds_from (suc r) sets rest)) (same_setting a b keeps)
+      rw (is, is_all) (subst (λ x. run_through x m (state b) (round_of r set lines ++ rounds_from (suc r) sets lines) ≡ run_through x m (state c) (rounds_from (suc r) sets rest)) keeps.setting_stays
       (did (rounds_from (suc r) sets lines) ∙ ap (run_through (setting b) m (state c)) (same sets)))

@@ -1,5 +1,5 @@
 -- What lies in code, as the format has it, and what private functions promise. Assumes nothing.
-use Rattle.std.specs.Prelude.{◌≡◌, ◌⊎◌, ℕ, ◌+◌, ◌^◌, ◌<◌, ◌≤◌, true, List, [], ◌∷◌, ◌++◌, map, length, take, drop, Some, None, Option, Result, Ok, Err, MatchResult, ⊤, ◌==◌, false}
+use Rattle.std.specs.Prelude.{◌≡◌, ◌⊎◌, ℕ, ◌+◌, ◌^◌, ◌<◌, ◌≤◌, true, List, [], ◌∷◌, ◌++◌, map, length, take, codes, Some, None, Option, Result, Ok, Err, MatchResult, ⊤, ◌==◌, false}
 use Rattle.values.specs.declared.kinds.Kind.{Ghosts}
 use Rattle.values.specs.declared.refusals.Refusal.{Refusal}
 use Rattle.values.specs.Refusals.{number_of}
@@ -7,9 +7,8 @@ use Rattle.values.specs.Rules.{Rules, means, words, text}
 use Rattle.values.specs.declared.buffers.Buffer.{Buffer}
 use Rattle.values.specs.Added.{Puts}
 use Rattle.models.specs.Laws.{Meaning}
-use Rattle.protocol.specs.Machine.{State, Open, Decision, Answer, Done, Decided, Refused, needed, step}
+use Rattle.protocol.specs.Machine.{State, Open, Decision, Answer, Done, Decided, Refused, step}
 use Rattle.run.specs.declared.run.Run.{Run}
-use Rattle.run.specs.Turns.{size_of}
 use Rattle.run.specs.Runs.{setting, state}
 use Rattle.run_file.specs.declared.headers.Header.{Header}
 use Rattle.run_file.specs.declared.parts.Parts.{Parts}
@@ -74,13 +73,6 @@ abbrev pub NotNext : (round : ℕ) → List lines.Line → Type 0
 NotNext round xs = (xs ≡ []) ⊎ ((x : lines.Line) × (rest : List lines.Line) × (xs ≡ x ∷ rest) × ((x.round == round) ≡ false))
 
 module _ {V R : Type 0} {kind : Ghosts V R} where
-  -- what calls on a run leave as it was, whatever else they do: the memory, and the cells past the needed number
-  pub record Keeps (before after : Run V R kind) : Type 0 where
-    pub size : (size_of before.turn ≡ 0) ⊎ (size_of after.turn ≡ size_of before.turn)
-    pub past : drop (needed (size_of after.turn)) after.cells.now ≡ drop (needed (size_of after.turn)) before.cells.now
-    pub room : length after.cells.now ≡ length before.cells.now
-    pub named : after.cells.ghost_name ≡ before.cells.ghost_name
-
   -- calls that are performed, whatever comes behind them: they leave the state that the run has now; or one of them is refused
   abbrev pub GoesOn : Meaning → List Asked → (before after : Run V R kind) → Type 0
   GoesOn m calls before after = (more : List Asked) → run_through (setting before) m (state before) (calls ++ more) ≡ run_through (setting before) m (state after) more
@@ -108,8 +100,8 @@ pub record IsListed (k : Rules) (m : Meaning) (cells : ℕ) (h : Header) (bytes 
   pub sound : (i : ℕ) → IsSound k (step (setting_of k cells) m left (Decision i)).1
   pub small : (h.n ≤ 16) × (h.t < 2 ^ 8) × (h.rounds < 2 ^ 16)
 
--- what becomes of a file: its listing, which obeys a law and is not long, is added to a text; or it is refused, and nothing is added
+-- what becomes of a file: its listing, which starts with `run`, obeys a law and is not long, is added to a text; or it is refused, and nothing is added
 abbrev pub Becomes : (Law : List ℕ → Type 0) → List ℕ × ℕ → Result ⊤ Stop → (before after : Buffer) → Type 0
 Becomes Law becomes result before after = MatchResult result
-    (λ _. (words : List ℕ) × (becomes ≡ (words, 0)) × Puts before words after × (length words ≤ least_room) × Law words)
+    (λ _. (words : List ℕ) × (becomes ≡ (words, 0)) × Puts before words after × (length words ≤ least_room) × (take 3 words ≡ codes "run") × Law words)
     (λ stop. (becomes ≡ (refused_line stop, number_of stop.refusal)) × Puts before [] after)

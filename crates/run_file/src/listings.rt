@@ -1,4 +1,4 @@
-ghost use Rattle.std.specs.Prelude.{◌≡◌, ◌≤◌, [], ◌++◌, length, take, drop, MatchResult, Ok, Err};
+ghost use Rattle.std.specs.Prelude.{◌≡◌, ◌↔◌, ◌≤◌, [], ◌++◌, length, take, drop, codes, MatchResult, Ok, Err};
 ghost use Rattle.values.specs.Added.{Puts};
 ghost use Rattle.run_file.specs.Headers.{header_of, model_of};
 ghost use Rattle.run_file.specs.Listings.{outcome, cells_used, listing, text_and_number, lent, with_header, listing_of, used_with, used_of};
@@ -11,8 +11,8 @@ use crate::reading::{MOST_CONTROLLERS, read_parts};
 use crate::stops::Stop;
 use crate::texts::{write_controllers, write_first_line, write_refused_line};
 use crate::votes::perform;
-use models::Model;
 use models::stamps::Stamped;
+use models::{LawfulModel, Model};
 use protocol::theorems::decisions_agree;
 use run::run::Run;
 use values::buffers::Buffer;
@@ -52,7 +52,7 @@ fn list_under<K: Kind, M: Model>(
     let mut run = Run::<K>::new(cells);
     perform(&mut run, model, header, &parts, rows)?;
     write_first_line(header, out);
-    write_controllers(&mut run, header.n, out);
+    write_controllers(&run, header.n, out);
     Ok(())
 }
 
@@ -70,11 +70,14 @@ fn list_file<K: Kind>(
         (text_and_number (listing K.rules (model_of header.now) (length cells.old) header.now) (outcome K.rules (model_of header.now) (length cells.old) header.now file.now)) result out.old out.new }
     ensures used { let used = cells_used K.rules (model_of header.now) (length cells.old) header.now file.now in drop used cells.new ≡ drop used cells.old }
 {
-    // This does nothing; it is the theorem that the law of the listing rests on.
+    // Agreement, and that the model is lawful: the theorems that the law of the listing rests on. Their calls do nothing.
     decisions_agree();
     if header.stamps {
-        list_under::<K, _>(file, header, &Stamped(header.model), rows, cells, out)
+        let model = Stamped(header.model);
+        model.lawful();
+        list_under::<K, _>(file, header, &model, rows, cells, out)
     } else {
+        header.model.lawful();
         list_under::<K, _>(file, header, &header.model, rows, cells, out)
     }
 }
@@ -115,6 +118,7 @@ pub fn list(
     ensures number { result.number ≡ (listing_of (length text.old) (lent setpoints.old sheets.old) file.now).1 }
     ensures fits { result.len ≤ 512 }
     ensures law { ListingLaw file.now (take result.len text.new) }
+    ensures vote { (result.number ≡ 0) ↔ (take 3 (take result.len text.new) ≡ codes "run") }
     ensures setpoints { let used = used_of (length text.old) (lent setpoints.old sheets.old) file.now ValueKind.Setpoint in drop used setpoints.new ≡ drop used setpoints.old }
     ensures sheets { let used = used_of (length text.old) (lent setpoints.old sheets.old) file.now ValueKind.Sheet in drop used sheets.new ≡ drop used sheets.old }
 {

@@ -1,10 +1,9 @@
-ghost use Rattle.std.specs.Prelude.{◌≡◌, ◌≤◌, length};
+ghost use Rattle.std.specs.Prelude.{◌≤◌, length};
 ghost use Rattle.values.specs.Added.{Puts};
 ghost use Rattle.models.specs.Laws.{Meaning};
 ghost use Rattle.run.specs.Calls.{said_cell};
 ghost use Rattle.run.specs.Runs.{setting, state};
 ghost use Rattle.run_file.specs.Texts.{first_line, shown, controller_lines, round_words, refused_line};
-ghost use Rattle.run_file.specs.InCode.{Keeps};
 
 use crate::headers::Header;
 use crate::stops::Stop;
@@ -36,11 +35,8 @@ fn write_decision<K: Kind>(decision: Result<Cell<K::Row>, Refusal>, out: &mut Bu
 }
 
 /// Writes a line for each of the first n controllers.
-pub(crate) fn write_controllers<K: Kind>(run: &mut Run<K>, n: u8, out: &mut Buffer)
-    ensures lines { (m : Meaning) → Puts out.old (controller_lines (setting run.old) m (state run.old) n) out.new }
-    ensures state { state run.new ≡ state run.old }
-    ensures cells { run.new.cells.now ≡ run.old.cells.now }
-    ensures keeps { Keeps run.old run.new }
+pub(crate) fn write_controllers<K: Kind>(run: &Run<K>, n: u8, out: &mut Buffer)
+    ensures { (m : Meaning) → Puts out.old (controller_lines (setting run.now) m (state run.now) n) out.new }
 {
     for controller in 0..n {
         out.put_decimal(controller.into());

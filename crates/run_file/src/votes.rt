@@ -2,11 +2,11 @@ ghost use Rattle.std.specs.Prelude.{◌≡◌, ◌≤◌, ◌<◌, ◌^◌, ℕ,
 ghost use Rattle.models.specs.Laws.{Meaning};
 ghost use Rattle.protocol.specs.Machine.{Idle, needed, step};
 ghost use Rattle.run.specs.Turns.{size_of};
-ghost use Rattle.run.specs.Runs.{setting, state};
+ghost use Rattle.run.specs.Runs.{setting, state, Keeps};
 ghost use Rattle.run.specs.Promises.{block_size};
 ghost use Rattle.run_file.specs.Listings.{stop};
 ghost use Rattle.run_file.specs.Votes.{forges, lines_of, round_of, rounds_from, run_through};
-ghost use Rattle.run_file.specs.InCode.{stop_at, HasRows, line_of, lines_in, sets_in, Checked, NotNext, opens, Keeps, GoesOn, Stops};
+ghost use Rattle.run_file.specs.InCode.{stop_at, HasRows, line_of, lines_in, sets_in, Checked, NotNext, opens, GoesOn, Stops};
 
 use crate::headers::Header;
 use crate::lines::Line;

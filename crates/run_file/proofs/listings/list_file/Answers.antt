@@ -10,11 +10,11 @@ returns-then-header-clause-becomes g c =
     let h = c.args.header.now in
     let stamps = c.if-header.true in
     let model : stamped (standard h.model) ≡ model_of h = rw stamps refl in
-    becomes_under c.decisions_agree.ensures g.K.Kind.rules (length c.args.cells.now) h c.args.file.now g.met.K.Kind.falls c.requires.fits c.args.out.now c.list_under.new.out _ model c.list_under.result c.list_under.ensures.listed
+    becomes_under c.decisions_agree.ensures g.K.Kind.rules (length c.args.cells.now) h c.args.file.now g.met.K.Kind.falls c.requires.fits c.args.out.now c.list_under.new.out _ model c.lawful.ensures c.list_under.result c.list_under.ensures.listed
 
 pub returns-else-header-clause-becomes : goal.returns-else-header-clause-becomes
 returns-else-header-clause-becomes g c =
     let h = c.args.header.now in
     let stamps = c.if-header.false in
     let model : standard h.model ≡ model_of h = rw stamps refl in
-    becomes_under c.decisions_agree.ensures g.K.Kind.rules (length c.args.cells.now) h c.args.file.now g.met.K.Kind.falls c.requires.fits c.args.out.now c.list_under-else-header.new.out _ model c.list_under-else-header.result c.list_under-else-header.ensures.listed
+    becomes_under c.decisions_agree.ensures g.K.Kind.rules (length c.args.cells.now) h c.args.file.now g.met.K.Kind.falls c.requires.fits c.args.out.now c.list_under-else-header.new.out _ model c.lawful-else-header.ensures c.list_under-else-header.result c.list_under-else-header.ensures.listed

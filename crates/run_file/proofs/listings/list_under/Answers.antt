@@ -6,7 +6,6 @@ use Rattle.run_file.specs.Texts.{first_line, controller_lines}
 use Rattle.run_file.specs.Votes.{rounds_from, run_through}
 use Rattle.run_file.specs.Listings.{stop, setting_of, cells_used, listing}
 use Rattle.run_file.specs.InCode.{sets_in, lines_in, opens}
-use Rattle.run_file.proofs.Voting.{same_setting}
 use Rattle.run_file.proofs.Listing.{puts_none}
 use Rattle.run_file.proofs.Outcomes.{lines_checked, outcome_is, past_used, refused_is}
 use Rattle.run_file.proofs.Shortness.{decision_sound}
@@ -75,14 +74,14 @@ returns-clause-listed g c =
     let run = c.perform.new.run in
     let did = c.in_ok-perform.ensures in
     let begun : setting c.new-run.result ≡ setting_of k n = ap (λ cells. record { cells = length cells; fallback = k.fallback }) c.new-run.ensures.cells in
-    let now : setting run ≡ setting_of k n = same_setting c.new-run.result run did.keeps ∙ begun in
+    let now : setting run ≡ setting_of k n = did.keeps.setting_stays ∙ begun in
     let ended : run_through (setting_of k n) m Idle (opens h p ∷ rounds_from 0 (sets_in p.sets) (lines_in p.lines)) ≡ Ok (state run) =
     subst (λ x. run_through x m Idle (opens h p ∷ rounds_from 0 (sets_in p.sets) (lines_in p.lines)) ≡ Ok (state run)) begun did.performed in
     record {
       left = state run;
       laid = valid.1.laid;
       ends = outcome_is k h bytes p valid.0 valid.1 m n (Ok (state run)) ended;
-      puts = puts_chain (ap (λ x. first_line h ++ controller_lines x m (state run) h.n) now) c.write_first_line.ensures (c.write_controllers.ensures.lines m);
+      puts = puts_chain (ap (λ x. first_line h ++ controller_lines x m (state run) h.n) now) c.write_first_line.ensures (c.write_controllers.ensures m);
       sound = decision_sound k g.K.Kind.plain g.met.K.Kind.falls (setting_of k n) m run.turn run.cells.now;
       small = (did.size, valid.1.t_small, valid.1.rounds_small);
     }
@@ -96,6 +95,6 @@ returns-clause-used g c =
     let bytes = c.args.file.now in
     let sound = c.in_ok-parts.ensures in
     let used = cells_used k m n h bytes in
-    let past : drop used c.write_controllers.new.run.cells.now ≡ drop used c.args.cells.now =
-    ap (drop used) c.write_controllers.ensures.cells ∙ past_used k h bytes c.in_ok-parts.parts sound.0 sound.1 m c.new-run.result.cells.now c.perform.new.run.cells.now c.args.cells.now c.new-run.ensures.cells c.perform.ensures.used in
+    let past : drop used c.perform.new.run.cells.now ≡ drop used c.args.cells.now =
+    past_used k h bytes c.in_ok-parts.parts sound.0 sound.1 m c.new-run.result.cells.now c.perform.new.run.cells.now c.args.cells.now c.new-run.ensures.cells c.perform.ensures.used in
     search rules

@@ -1,8 +1,8 @@
 use Rattle.std.proofs.Common.{◌≡◌, ◌++◌, ℕ, suc, List, map}
 use Rattle.models.specs.Laws.{Meaning}
-use Rattle.run.specs.Runs.{setting, state}
+use Rattle.run.specs.Runs.{setting, state, Keeps}
 use Rattle.run_file.specs.Votes.{Asked, forges, lines_of, rounds_from, run_through}
-use Rattle.run_file.specs.InCode.{lines_in, Checked, Keeps}
+use Rattle.run_file.specs.InCode.{lines_in, Checked}
 use Rattle.run_file.proofs.votes.forge_lines.Given as goal
 
 abbrev pub invariant-loop-line : goal.invariant-loop-line

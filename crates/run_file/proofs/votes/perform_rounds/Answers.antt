@@ -2,7 +2,8 @@ use Rattle.std.proofs.Common.{rules, ap, sym, subst, ◌≡◌, ◌∙◌, ◌�
 use Rattle.std.specs.Prelude.{map}
 use Rattle.run_file.specs.Files.{word}
 use Rattle.run_file.specs.InCode.{lines_in, sets_in, Checked}
-use Rattle.run_file.proofs.Voting.{keeps_more, rounds_done}
+use Rattle.run.proofs.Chains.{keeps_more}
+use Rattle.run_file.proofs.Voting.{rounds_done}
 use Rattle.run_file.proofs.votes.perform_rounds.Goals as goal
 
 pub loop-set-preserved : goal.loop-set-preserved

@@ -1,7 +1,7 @@
 use Rattle.std.proofs.Common.{◌≡◌, ◌+◌}
-use Rattle.run.specs.Runs.{setting, state}
+use Rattle.run.specs.Runs.{setting, state, Keeps}
 use Rattle.run_file.specs.Votes.{rounds_from, run_through}
-use Rattle.run_file.specs.InCode.{lines_in, sets_in, Checked, Keeps}
+use Rattle.run_file.specs.InCode.{lines_in, sets_in, Checked}
 use Rattle.run_file.proofs.votes.perform_rounds.Given as goal
 
 abbrev pub invariant-loop-set : goal.invariant-loop-set
