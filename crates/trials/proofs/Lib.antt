@@ -1,0 +1,3 @@
+mod CallerLogs
+mod PlayedLogs
+mod ListedLines

@@ -1,6 +1,10 @@
-//! Tests of the public calls of the other crates, and a value kind and a model of faults as strangers would build them.
+//! Tests of the public calls of the other crates; a value kind and two models of faults as strangers would build them; and
+//! callers that conclude something.
 #![tactic(auto)]
 
+#[cfg(test)]
+mod caller_tests;
+pub mod callers;
 #[cfg(test)]
 mod cell_tests;
 #[cfg(test)]
@@ -22,6 +26,7 @@ mod play_tests;
 mod refusal_tests;
 #[cfg(test)]
 mod refused_tests;
+pub mod rising;
 #[cfg(test)]
 mod run_tests;
 #[cfg(test)]

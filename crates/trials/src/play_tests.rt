@@ -2,10 +2,12 @@ use crate::helpers::{DONE, decided, decision, forge, open, seat};
 use models::standards::Standard;
 use run::calls::{Answer, Call};
 use run::play::play;
-use std::alloc::AllocError;
 use std::test::Fail;
 use values::refusals::Refusal;
 use values::setpoints::Setpoint;
+
+// What lies where no answer was put.
+const LEFT: Result<Answer<u16>, Refusal> = Err(Refusal::TextRoom);
 
 // Refused calls stand between the others, and each call has its answer in its place.
 #[test]
@@ -38,15 +40,9 @@ fn each_call_is_answered_in_its_place(rt: HostRuntime) -> Result<(), Fail> {
         calls[at] = call;
     }
     let mut cells = [Some(777); 10];
-    // want of memory is no refusal, but an error of its own
-    let played: Result<Vec<Result<Answer<u16>, Refusal>>, AllocError> = play::<Setpoint, Standard>(
-        rt.alloc(),
-        &mut cells,
-        &Standard::Aware,
-        &calls,
-    );
-    let answers = played?;
-    assert_eq!(rt; answers.len(), steps.len());
+    let mut answers = [LEFT; 21];
+    let count = play::<Setpoint, Standard>(&mut cells, &Standard::Aware, &calls, &mut answers);
+    assert_eq!(rt; count, steps.len());
     for (at, (_, outcome)) in steps.into_iter().enumerate() {
         assert_eq!(rt; answers[at].map_err(u8::from), outcome, "at step {at}");
     }
@@ -70,8 +66,9 @@ fn what_is_forged_in_a_list_counts(rt: HostRuntime) -> Result<(), Fail> {
     ];
     let outcomes = [DONE, DONE, DONE, DONE, DONE, DONE, Err(10), DONE, Err(12)];
     let mut cells = [Some(777); 116];
-    let answers = play::<Setpoint, Standard>(rt.alloc(), &mut cells, &Standard::Carried, &calls)?;
-    assert_eq!(rt; answers.len(), 9);
+    let mut answers = [LEFT; 9];
+    let count = play::<Setpoint, Standard>(&mut cells, &Standard::Carried, &calls, &mut answers);
+    assert_eq!(rt; count, 9);
     for (at, outcome) in outcomes.into_iter().enumerate() {
         assert_eq!(rt; answers[at].map_err(u8::from), outcome, "at call {at}");
     }
@@ -79,11 +76,25 @@ fn what_is_forged_in_a_list_counts(rt: HostRuntime) -> Result<(), Fail> {
     Ok(())
 }
 
+// As many calls are performed as there is room for answers; where there is more room, the rest of it stays.
 #[test]
-fn no_calls_have_no_answers(rt: HostRuntime) -> Result<(), Fail> {
-    let mut cells = [Some(777); 8];
-    let answers = play::<Setpoint, Standard>(rt.alloc(), &mut cells, &Standard::Aware, &[])?;
-    assert!(rt; answers.is_empty());
-    assert_eq!(rt; cells, [Some(777); 8]);
+fn calls_and_room_bound_each_other(rt: HostRuntime) -> Result<(), Fail> {
+    let calls = [open(1, 0, &[500], 0), seat(0), Call::Close];
+    for room in 0..5 {
+        let mut cells = [Some(777); 8];
+        let mut answers = [LEFT; 5];
+        let count = play::<Setpoint, Standard>(
+            &mut cells,
+            &Standard::Aware,
+            &calls,
+            &mut answers[..room],
+        );
+        assert_eq!(rt; count, room.min(3));
+        for at in 0..5 {
+            let outcome = if at < count { Ok(Answer::Done) } else { LEFT };
+            assert_eq!(rt; answers[at], outcome, "at {at} with room for {room}");
+        }
+        assert!(rt; count > 0 || cells == [Some(777); 8]);
+    }
     Ok(())
 }

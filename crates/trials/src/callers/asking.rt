@@ -1,0 +1,38 @@
+ghost use Rattle.std.specs.Prelude.{◌++◌, map, length, IfOk};
+ghost use Rattle.trials.specs.Callers.{Concludes};
+
+use models::LawfulModel;
+use models::sets::Set;
+use run::calls::Opening;
+use run::run::Run;
+use values::cells::Cell;
+use values::kinds::Kind;
+use values::refusals::Refusal;
+
+/// Opens a block, runs a round for each of some sets and asks a controller; then runs a round for each further set and asks
+/// another. Nothing is forged. The first refusal ends it.
+pub fn ask_twice<K: Kind, M: LawfulModel>(
+    cells: &mut [Cell<K::Row>],
+    model: &M,
+    opening: Opening<K::Row>,
+    earlier: &[Set],
+    later: &[Set],
+    asked: (usize, usize),
+) -> Result<(Cell<K::Row>, Cell<K::Row>), Refusal>
+    ensures { IfOk result (λ both. Concludes K.rules K.plain opening.entry.n opening.entry.proposals.now (map (λ set. set.0) (earlier.now ++ later.now)) (length earlier.now) both.0 both.1) }
+{
+    model.lawful();
+    let mut run = Run::<K>::new(cells);
+    run.open(model, opening)?;
+    for set in earlier {
+        run.seat(model, *set)?;
+        run.close()?;
+    }
+    let first = run.decision(asked.0)?;
+    for set in later {
+        run.seat(model, *set)?;
+        run.close()?;
+    }
+    let second = run.decision(asked.1)?;
+    Ok((first, second))
+}

@@ -1,0 +1,25 @@
+ghost use Rattle.std.specs.Prelude.{◌≡◌, ◌≢◌, None, length, take, IfSome};
+ghost use Rattle.run_file.specs.Listings.{lent, listing_of};
+ghost use Rattle.trials.specs.Listed.{Agreed};
+
+use run_file::listings::list;
+use values::cells::Cell;
+use values::sheets::Shares;
+
+/// Lists a file, and answers the length of the text if the file tells a vote.
+pub fn list_vote(
+    file: &[u8],
+    setpoints: &mut [Cell<u16>],
+    sheets: &mut [Cell<Shares>],
+    text: &mut [u8],
+) -> Option<usize>
+    ensures vote { IfSome result (λ len. Agreed file.now (take len text.new)) }
+    ensures refused { result ≡ None → (listing_of (length text.old) (lent setpoints.old sheets.old) file.now).1 ≢ 0 }
+{
+    let listing = list(file, setpoints, sheets, text);
+    if listing.number == 0 {
+        Some(listing.len)
+    } else {
+        None
+    }
+}

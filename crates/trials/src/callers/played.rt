@@ -1,0 +1,24 @@
+ghost use Rattle.std.specs.Prelude.{◌≡◌, min, length};
+ghost use Rattle.trials.specs.Played.{AllSame, AllProposed};
+
+use models::LawfulModel;
+use run::calls::{Answer, Call};
+use run::play::play;
+use values::cells::Cell;
+use values::kinds::Kind;
+use values::refusals::Refusal;
+
+/// Performs calls, puts their answers into lent memory, and tells how many were performed.
+pub fn perform_all<K: Kind, M: LawfulModel>(
+    cells: &mut [Cell<K::Row>],
+    model: &M,
+    calls: &[Call<K::Row>],
+    answers: &mut [Result<Answer<K::Row>, Refusal>],
+) -> usize
+    ensures count { result ≡ min (length calls.now) (length answers.old) }
+    ensures equal { AllSame K.rules K.plain result calls.now answers.new }
+    ensures valid { AllProposed K.rules K.plain result calls.now answers.new (M.meaning model.now) }
+{
+    model.lawful();
+    play::<K, M>(cells, model, calls, answers)
+}
