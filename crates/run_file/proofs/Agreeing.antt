@@ -1,5 +1,5 @@
 -- Decisions asked after a file's calls agree, by the agreement of the protocol.
-use Rattle.std.proofs.Common.{◌≡◌, ℕ, zero, suc, ◌+◌, ◌*◌, ◌<◌, ◌≤◌, arith, refl, sym, ap, subst, ◌∙◌, true, false, cond, List, [], ◌∷◌, ◌++◌, map, length, take, drop, Some, None, Option, inl, inr, ◌⊎◌, ⊎_elim, Ok, Result, slice_index}
+use Rattle.std.proofs.Common.{◌≡◌, ℕ, zero, suc, ◌+◌, ◌*◌, ◌<◌, ◌≤◌, arith, refl, sym, ap, subst, ◌∙◌, Bool, true, false, cond, List, [], ◌∷◌, ◌++◌, map, length, take, drop, Some, None, Option, inl, inr, ◌⊎◌, ⊎_elim, Ok, Result, slice_index}
 use Rattle.std.specs.Option.{option_or}
 use Rattle.std.proofs.lemmas.Bool.{cases_lt}
 use Rattle.std.proofs.lemmas.List.{append-nil, append_assoc, length-map}
@@ -10,14 +10,17 @@ use Rattle.models.specs.declared.classes.Class.TheVariants.{Honest}
 use Rattle.models.specs.Sets.{has}
 use Rattle.models.specs.Laws.{Meaning, Lawful}
 use Rattle.protocol.specs.Machine.{Setting, State, Idle, Waiting, Seated, Call, Open, Seat, Close, Decision, Answer, Done, Decided, Refused, decision_refusal, unless, step}
-use Rattle.protocol.specs.Transcripts.{Transcript, accepted, Opening, sets_in, closes_in, told_cell, opening, sets, closes, answered, Clean, Proposed, Agrees, transcript, Agreement}
+use Rattle.protocol.specs.Transcripts.{Transcript, accepted, Opening, sets_in, closes_in, told_cell, opening, sets, closes, answered, Clean, Filled, Proposed, Agrees, transcript, Agreement}
 use Rattle.run_file.specs.declared.headers.Header.{Header}
 use Rattle.run_file.specs.declared.stops.Stop.{Stop}
-use Rattle.run_file.specs.Files.{pieces, word, proposals, initial_set, round_sets, sets_start, forgery_lines}
+use Rattle.run_file.specs.Files.{pieces, word, laid_out, proposals, initial_set, round_sets, sets_start, forgery_lines}
+use Rattle.run_file.specs.Headers.{model_of}
 use Rattle.run_file.specs.Lines.{Line, line}
 use Rattle.run_file.specs.Votes.{Asked, in_round, forges, lines_of, rounds_from, stopped, unless_stopped, run_through}
 use Rattle.run_file.specs.Listings.{setting_of, calls_of}
+use Rattle.run_file.specs.Promises.{last_set, CleanIn, HonestIn, proposal_in}
 use Rattle.run_file.specs.InCode.{IsSound}
+use Rattle.run_file.proofs.Ending.{file_first, file_set, file_proposal, free_last}
 
 -- what calls that are all accepted add
 abbrev all_sets : List Asked → List ℕ
@@ -60,18 +63,15 @@ goes_on round Done rest end e = (refl, e)
 goes_on round (Decided cell) rest end e = (refl, e)
 goes_on round (Refused why) rest end e = absurd (grind arith)
 
--- a decision leaves the state alone, and is refused or answers a cell
-abbrev Tells : Answer → Type 0
-Tells answer = ((why : Refusal) × (answer ≡ Refused why)) ⊎ ((cell : Held) × (answer ≡ Decided cell))
+-- a decision leaves the state alone, whether it is refused or not
+unless_same : (why : Option Refusal) (s : State) (answer : Answer) → (unless why s s answer).0 ≡ s
+unless_same None s answer = refl
+unless_same (Some why) s answer = refl
 
-unless_tells : (why : Option Refusal) (s : State) (cell : Held) → ((unless why s s (Decided cell)).0 ≡ s) × Tells (unless why s s (Decided cell)).1
-unless_tells None s cell = (refl, inr (cell, refl))
-unless_tells (Some why) s cell = (refl, inl (why, refl))
-
-tells : (x : Setting) (m : Meaning) (s : State) (i : ℕ) → ((step x m s (Decision i)).0 ≡ s) × Tells (step x m s (Decision i)).1
-tells x m Idle i = (refl, inl (_, refl))
-tells x m (Waiting b) i = unless_tells (decision_refusal b i) (Waiting b) (b.memory i).decision
-tells x m (Seated b s) i = unless_tells (decision_refusal b i) (Seated b s) (b.memory i).decision
+same_state : (x : Setting) (m : Meaning) (s : State) (i : ℕ) → (step x m s (Decision i)).0 ≡ s
+same_state x m Idle i = refl
+same_state x m (Waiting b) i = unless_same (decision_refusal b i) (Waiting b) (Decided (b.memory i).decision)
+same_state x m (Seated b s) i = unless_same (decision_refusal b i) (Seated b s) (Decided (b.memory i).decision)
 
 -- the calls, without their rounds
 abbrev calls_in : List Asked → List Call
@@ -132,35 +132,27 @@ module _ (x : Setting) (m : Meaning) where
     first_told = ran_answered Idle end asked (Decision i ∷ Decision j ∷ []) 0 ran
 
     second_told : answered both (length asked + 1) ≡ told_cell (told end j)
-    second_told = ran_answered Idle end asked (Decision i ∷ Decision j ∷ []) 1 ran ∙ ap (λ s. told_cell (step x m s (Decision j)).1) (tells x m end i).0
+    second_told = ran_answered Idle end asked (Decision i ∷ Decision j ∷ []) 1 ran ∙ ap (λ s. told_cell (step x m s (Decision j)).1) (same_state x m end i)
 
     before_closes : closes (take (length asked + 0) both) ≡ all_closes asked
     before_closes = ran_closes Idle end asked (Decision i ∷ Decision j ∷ []) 0 ran ∙ omega arith
 
--- answers of which each is refused or filled, where filled ones are equal, give one value
-abbrev Settled : Answer → Type 0
-Settled answer = ((why : Refusal) × (answer ≡ Refused why)) ⊎ ((v : List ℕ) × (answer ≡ Decided (Some v)))
-
--- an answer is refused, or is this value
-abbrev pub Gives : List ℕ → Answer → Type 0
-Gives v answer = ((why : Refusal) × (answer ≡ Refused why)) ⊎ (answer ≡ Decided (Some v))
-
-module _ (answer : ℕ → Answer) (settled : (i : ℕ) → Settled (answer i)) (equal : (i j : ℕ) (v w : List ℕ) → answer i ≡ Decided (Some v) → answer j ≡ Decided (Some w) → v ≡ w)
+-- where the answers of all n controllers that are not seated are filled, and filled ones are equal, they give one value
+module _ (answer : ℕ → Answer) (n : ℕ) (seated : ℕ → Bool) (filled : (i : ℕ) → i < n → seated i ≡ false → (v : List ℕ) × (answer i ≡ Decided (Some v)))
+    (equal : (i j : ℕ) (v w : List ℕ) → answer i ≡ Decided (Some v) → answer j ≡ Decided (Some w) → v ≡ w)
     (Good : List ℕ → Type 0) (good : (i : ℕ) (v : List ℕ) → answer i ≡ Decided (Some v) → Good v) (default : List ℕ) (default_good : Good default) where
   abbrev AllGive : List ℕ → ℕ → Type 0
-  AllGive v n = (i : ℕ) → i < n → Gives v (answer i)
+  AllGive v j = (i : ℕ) → i < j → seated i ≡ false → answer i ≡ Decided (Some v)
 
-  gives : (i j : ℕ) (v : List ℕ) → answer j ≡ Decided (Some v) → Settled (answer i) → Gives v (answer i)
-  gives i j v e (inl r) = inl r
-  gives i j v e (inr w) = inr (w.1 ∙ ap (λ v. Decided (Some v)) (equal i j w.0 v w.1 e))
+  give_more : (j : ℕ) → j < n → (b : Bool) → seated j ≡ b → (v : List ℕ) × Good v × AllGive v j → (v : List ℕ) × Good v × AllGive v (suc j)
+  give_more j lt true e so_far = (so_far.0, so_far.1, λ i below free. ⊎_elim (λ lower. so_far.2 i lower free) (λ ge. let last : i ≡ j = omega arith in cc) (cases_lt i j))
+  give_more j lt false e so_far =
+      let v = filled j lt e in
+      (v.0, good j v.0 v.1, λ i below free. let w = filled i (omega arith) free in w.1 ∙ ap (λ v. Decided (Some v)) (equal i j w.0 v.0 w.1 v.1))
 
-  give_more : (n : ℕ) → Settled (answer n) → (v : List ℕ) × Good v × AllGive v n → (v : List ℕ) × Good v × AllGive v (suc n)
-  give_more n (inl r) so_far = (so_far.0, so_far.1, λ i lt. ⊎_elim (so_far.2 i) (λ ge. let last : n ≡ i = omega arith in inl (r.0, ap answer (sym last) ∙ r.1)) (cases_lt i n))
-  give_more n (inr v) so_far = (v.0, good n v.0 v.1, λ i lt. gives i n v.0 v.1 (settled i))
-
-  give_one : (n : ℕ) → (v : List ℕ) × Good v × AllGive v n
-  give_one zero = (default, default_good, λ i lt. absurd (omega arith))
-  give_one (suc n) = give_more n (settled n) (give_one n)
+  give_one : (j : ℕ) → j ≤ n → (v : List ℕ) × Good v × AllGive v j
+  give_one zero le = (default, default_good, λ i lt. absurd (omega arith))
+  give_one (suc j) le = give_more j (omega arith) (seated j) refl (give_one j (omega arith))
 
 -- an opened file whose calls were all accepted
 module _ (x : Setting) (m : Meaning) (o : Opening) (seated : List ℕ) (lines : List Line) (end : State) where
@@ -195,7 +187,7 @@ module _ (x : Setting) (m : Meaning) (o : Opening) (seated : List ℕ) (lines : 
         (λ j lt honest. proposed j lt (subst (λ sets. 0 < length sets) all honest.reached) (ap (λ sets. m.class o.initial (slice_index sets 0) o.t j) (sym all) ∙ honest.honest))
         (length asked + 0) v (told_first i i (Some v) e)
 
-    -- with a clean coordinator and enough rounds it is refused or filled, and two filled ones are equal
+    -- with a clean coordinator and enough rounds it is filled, and two filled ones are equal
     module _ (c : ℕ) (lt : c < o.n) (one : has (slice_index seated (3 * c + 1)) c ≡ false) (two : has (slice_index seated (3 * c + 2)) c ≡ false) (enough : 3 * o.n ≤ length seated) where
       clean_is : (i j : ℕ) → Clean (both x m end asked ran i j) o c
       clean_is i j = record {
@@ -204,26 +196,20 @@ module _ (x : Setting) (m : Meaning) (o : Opening) (seated : List ℕ) (lines : 
         deciding = ap (λ all. has (slice_index all (3 * c + 2)) c) (all_seated i j) ∙ two;
       }
 
-      settled_is : (i : ℕ) → Tells (told x m end i) → Settled (told x m end i)
-      settled_is i (inl r) = inl r
-      settled_is i (inr cell) =
-          let f = (agrees i i).filled c (clean_is i i) (length asked + 0) cell.0 (told_first i i cell.0 cell.1) (omega (arith, all_closed i, enough)) in
-          inr (f.0, cell.1 ∙ ap Decided f.1)
+      filled_is : (i : ℕ) (cell : Held) → told x m end i ≡ Decided cell → Filled cell
+      filled_is i cell e = (agrees i i).filled c (clean_is i i) (length asked + 0) cell (told_first i i cell e) (omega (arith, all_closed i, enough))
 
       equal_are : (i j : ℕ) (v w : List ℕ) → told x m end i ≡ Decided (Some v) → told x m end j ≡ Decided (Some w) → v ≡ w
       equal_are i j v w e f = (agrees i j).equal c (clean_is i j) (length asked + 0) (length asked + 1) v w (told_first i j (Some v) e) (second_told x m end asked ran i j ∙ ap told_cell f)
-
-      one_given : (Good : List ℕ → Type 0) → ((i : ℕ) (v : List ℕ) → told x m end i ≡ Decided (Some v) → Good v) → (default : List ℕ) → Good default
-          → (v : List ℕ) × Good v × ((i : ℕ) → i < o.n → Gives v (told x m end i))
-      one_given Good good default default_good = give_one (told x m end) (λ i. settled_is i (tells x m end i).1) equal_are Good good default default_good o.n
 
 -- there are as many pieces as are counted
 pieces_count : (width count : ℕ) (bytes : List ℕ) → length (pieces width count bytes) ≡ count
 pieces_count width zero bytes = refl
 pieces_count width (suc count) bytes = ap suc (pieces_count width count (drop width bytes))
 
--- a file whose calls are all accepted
-module _ (agreement : Agreement) (k : Rules) (m : Meaning) (lawful : Lawful m) (cells : ℕ) (h : Header) (bytes : List ℕ) (s : State) (ran : run_through (setting_of k cells) m Idle (calls_of k h bytes) ≡ Ok s) where
+-- a file whose calls are all accepted under its model
+module _ (agreement : Agreement) (k : Rules) (cells : ℕ) (h : Header) (lawful : Lawful (model_of h)) (bytes : List ℕ) (laid : laid_out k.width h bytes ≡ true) (s : State)
+    (ran : run_through (setting_of k cells) (model_of h) Idle (calls_of k h bytes) ≡ Ok s) where
   abbrev opening_of : Opening
   opening_of = record { n = h.n; t = h.t; proposals = map words (proposals k.width h bytes); initial = initial_set k.width h bytes }
 
@@ -233,21 +219,55 @@ module _ (agreement : Agreement) (k : Rules) (m : Meaning) (lawful : Lawful m) (
   abbrev lines_in : List Line
   lines_in = map line (forgery_lines k.width h bytes)
 
+  abbrev answer : ℕ → Answer
+  answer = told (setting_of k cells) (model_of h) s
+
+  -- who is not seated at the end
+  abbrev Free : ℕ → Type 0
+  Free i = has (last_set h bytes) i ≡ false
+
   count : length seated_of ≡ h.rounds
   count = let rest = drop (sets_start k.width h + 2) bytes in length-map (pieces 2 h.rounds rest) (λ two. word two 0) ∙ pieces_count 2 h.rounds rest
 
+  cell_of : (i : ℕ) → i < h.n → Free i → (cell : Held) × (answer i ≡ Decided cell)
+  cell_of = free_last k (model_of h) cells h bytes laid s ran
+
   -- with fewer than 3n rounds every decision is empty
-  pub early : h.rounds < 3 * h.n → (i : ℕ) (cell : Held) → told (setting_of k cells) m s i ≡ Decided cell → cell ≡ None
-  early few = early_is (setting_of k cells) m opening_of seated_of lines_in s agreement lawful ran (omega (arith, count, few))
+  pub early : h.rounds < 3 * h.n → (i : ℕ) → i < h.n → Free i → answer i ≡ Decided None
+  early few i lt free =
+      let cell = cell_of i lt free in
+      cell.1 ∙ ap Decided (early_is (setting_of k cells) (model_of h) opening_of seated_of lines_in s agreement lawful ran (omega (arith, count, few)) i cell.0 cell.1)
 
-  -- a filled one is what all who are honest in round 0 proposed
-  pub valid : (w : List ℕ) → ((i : ℕ) → i < h.n → 0 < h.rounds → m.class opening_of.initial (slice_index seated_of 0) h.t i ≡ Honest → Proposed opening_of i w)
-      → (i : ℕ) (v : List ℕ) → told (setting_of k cells) m s i ≡ Decided (Some v) → v ≡ w
-  valid w proposed = valid_is (setting_of k cells) m opening_of seated_of lines_in s agreement lawful ran w (λ i lt reached. proposed i lt (omega (arith, count, reached)))
+  -- where all who are honest in round 0 proposed w, it is empty or w
+  none_or : (w : List ℕ) (i : ℕ) (cell : Held) → answer i ≡ Decided cell → ((v : List ℕ) → answer i ≡ Decided (Some v) → v ≡ w) → (answer i ≡ Decided None) ⊎ (answer i ≡ Decided (Some w))
+  none_or w i None e only = inl e
+  none_or w i (Some v) e only = inr (e ∙ ap (λ v. Decided (Some v)) (only v e))
 
-  -- a clean coordinator and 3n rounds make all decisions that are not refused one lawful value
-  pub one_value : k.allowed k.fallback ≡ true → ((i : ℕ) → IsSound k (told (setting_of k cells) m s i))
-      → (c : ℕ) → c < h.n → has (slice_index seated_of (3 * c + 1)) c ≡ false → has (slice_index seated_of (3 * c + 2)) c ≡ false → 3 * h.n ≤ h.rounds
-      → (v : List ℕ) × (k.allowed v ≡ true) × ((i : ℕ) → i < h.n → Gives v (told (setting_of k cells) m s i))
-  one_value falls sound c lt one two enough =
-      one_given (setting_of k cells) m opening_of seated_of lines_in s agreement lawful ran c lt one two (omega (arith, count, enough)) (λ v. k.allowed v ≡ true) (λ i v e. subst (IsSound k) e (sound i)) k.fallback falls
+  honest_in : (i : ℕ) → 0 < h.rounds → (model_of h).class opening_of.initial (slice_index seated_of 0) h.t i ≡ Honest → HonestIn h bytes i
+  honest_in i reached e =
+      let first = file_first k h bytes laid in
+      let set = file_set k h bytes laid 0 reached in
+      record { reached = reached; honest = (cc) }
+
+  pub valid : (w : List ℕ) → ((i : ℕ) → i < h.n → HonestIn h bytes i → proposal_in k h bytes i ≡ w) → (i : ℕ) → i < h.n → Free i → (answer i ≡ Decided None) ⊎ (answer i ≡ Decided (Some w))
+  valid w proposed i lt free =
+      let cell = cell_of i lt free in
+      let all : (j : ℕ) → j < h.n → 0 < length seated_of → (model_of h).class opening_of.initial (slice_index seated_of 0) h.t j ≡ Honest → Proposed opening_of j w =
+      λ j lt reached e. file_proposal k h bytes laid j lt ∙ ap Some (proposed j lt (honest_in j (omega (arith, count, reached)) e)) in
+      none_or w i cell.0 cell.1 (valid_is (setting_of k cells) (model_of h) opening_of seated_of lines_in s agreement lawful ran w all i)
+
+  -- with a clean coordinator and 3n rounds all are one lawful value
+  pub one_value : k.allowed k.fallback ≡ true → ((i : ℕ) → IsSound k (answer i)) → (c : ℕ) → CleanIn h bytes c → 3 * h.n ≤ h.rounds
+      → (v : List ℕ) × (k.allowed v ≡ true) × ((i : ℕ) → i < h.n → Free i → answer i ≡ Decided (Some v))
+  one_value falls sound c clean enough =
+      let lt = clean.controller in
+      let one = ap (λ set. has set c) (file_set k h bytes laid (3 * c + 1) (omega arith)) ∙ clean.collecting in
+      let two = ap (λ set. has set c) (file_set k h bytes laid (3 * c + 2) (omega arith)) ∙ clean.deciding in
+      let long : 3 * h.n ≤ length seated_of = omega (arith, count, enough) in
+      give_one answer h.n (has (last_set h bytes))
+      (λ i lt free.
+      let cell = cell_of i lt free in
+      let f = filled_is (setting_of k cells) (model_of h) opening_of seated_of lines_in s agreement lawful ran c clean.controller one two long i cell.0 cell.1 in
+      (f.0, cell.1 ∙ ap Decided f.1))
+      (equal_are (setting_of k cells) (model_of h) opening_of seated_of lines_in s agreement lawful ran c clean.controller one two long)
+      (λ v. k.allowed v ≡ true) (λ i v e. subst (IsSound k) e (sound i)) k.fallback falls h.n (omega arith)
