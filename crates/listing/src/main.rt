@@ -2,11 +2,10 @@
 
 ghost use Rattle.std.specs.Prelude.{◌≤◌, length, IfOk};
 
-use run_file::listings::list;
+use run_file::list;
 use std::io;
 use std::io::{Read, Write};
-use values::cells::Cell;
-use values::sheets::Shares;
+use values::{Cell, Shares};
 
 // One byte more than the longest run file has: enough to see that an input is too long.
 const INPUT_BYTES: usize = 65536;

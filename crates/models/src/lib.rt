@@ -4,14 +4,17 @@
 ghost use Rattle.std.specs.Prelude.{◌≡◌};
 ghost use Rattle.models.specs.Laws.{Meaning, Bounded, Capped, Lawful};
 
-use crate::classes::{Class, Counts};
-use crate::moves::Moved;
+mod classes;
+mod moves;
+mod sets;
+mod stamps;
+mod standards;
 
-pub mod classes;
-pub mod moves;
-pub mod sets;
-pub mod stamps;
-pub mod standards;
+pub use classes::{Class, Counts};
+pub use moves::Moved;
+pub use sets::Set;
+pub use stamps::{Stamped, stamps_keep_the_laws};
+pub use standards::{Standard, UnknownModel, counts_are_reached};
 
 /// A model of faults, asked about a move of the faults from one set of seated controllers to another.
 ///

@@ -3,8 +3,7 @@ ghost use Rattle.poll.specs.declared.polls.Fault.TheVariants.{Refused, NoMemory}
 
 use std::alloc::AllocError;
 use std::fmt;
-use values::refusals::Refusal;
-use values::setpoints::Setpoint;
+use values::{Refusal, Setpoint};
 
 mod counting;
 

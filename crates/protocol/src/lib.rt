@@ -2,5 +2,12 @@
 //! worked votes come out as written, and that all decisions agree.
 #![tactic(auto)]
 
-pub mod stages;
-pub mod theorems;
+mod stages;
+mod theorems;
+
+pub use stages::{Stage, coordinator};
+pub use theorems::{
+    decisions_agree, rounds_under_any_counts, stamped_aware_runs_algorithm_2,
+    stamped_carried_runs_algorithm_3, the_law_is_not_empty, the_machine_obeys_its_laws,
+    unaware_runs_algorithm_1, worked_votes_come_out,
+};

@@ -22,8 +22,7 @@ ghost use Rattle.protocol.specs.Transcripts.{Agreement};
 ghost use Rattle.protocol.specs.Votes.{WorkedVotes};
 ghost use Rattle.protocol.specs.FurtherVotes.{FurtherVotes};
 
-use models::LawfulModel;
-use models::standards::Standard;
+use models::{LawfulModel, Standard};
 
 /// Whatever the counts b, e and l of a block, if n is above their sum its rounds are of one form under them, and the three
 /// published rounds are that form under (2t, t, 2t), (2t, 0, t) and (t, 0, t).

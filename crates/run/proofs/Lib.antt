@@ -4,7 +4,7 @@ mod Heard
 mod Parts
 mod Renewing
 mod Emptying
-mod Opening
+mod Opened
 mod Forging
 mod Steps
 mod Promised

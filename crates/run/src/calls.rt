@@ -1,5 +1,5 @@
-use models::sets::Set;
-use values::cells::Cell;
+use models::Set;
+use values::Cell;
 
 /// What a block is opened with.
 #[derive(Clone, Copy)]

@@ -6,13 +6,9 @@ ghost use Rattle.run.specs.Checks.{IsOpened, IsSeated, bare, bare_seating};
 use crate::calls::{Opening, Place};
 use crate::places::needed;
 use crate::turns::{Block, Seating};
-use models::Model;
-use models::classes::Class;
-use models::moves::Moved;
-use models::sets::Set;
-use protocol::stages::Stage;
-use values::kinds::Kind;
-use values::refusals::Refusal;
+use models::{Class, Model, Moved, Set};
+use protocol::Stage;
+use values::{Kind, Refusal};
 
 // The largest block, and how many rounds a run has at most.
 const MOST_CONTROLLERS: usize = 16;

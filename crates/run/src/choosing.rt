@@ -3,9 +3,8 @@ ghost use Rattle.values.specs.Rules.{means};
 ghost use Rattle.values.specs.Cells.{shows, seen};
 ghost use Rattle.protocol.specs.Rounds.{at_place, chosen, held_by, settled};
 
-use models::classes::Counts;
-use values::cells::{Cell, Quorum, winner};
-use values::kinds::Kind;
+use models::Counts;
+use values::{Cell, Kind, Quorum, winner};
 
 /// The cell at a place, if there is one.
 pub(crate) fn at_place<K: Kind>(cells: &[Cell<K::Row>], place: Option<usize>) -> Cell<K::Row>

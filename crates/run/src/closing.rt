@@ -11,10 +11,9 @@ use crate::hearing::Sent;
 use crate::rounds::{collect, decide, maintain, propose};
 use crate::store::clear;
 use crate::turns::{Block, Seating};
-use models::sets::Set;
-use protocol::stages::Stage;
-use values::cells::Cell;
-use values::kinds::Kind;
+use models::Set;
+use protocol::Stage;
+use values::{Cell, Kind};
 
 // Every controller computes from what was sent: into work cells first, so that none reads another's new cells.
 fn renew<K: Kind>(

@@ -1,7 +1,7 @@
 use crate::calls::{Call, Opening, Place};
 use crate::turns::{Block, Seating, Turn};
-use models::sets::Set;
-use values::cells::Cell;
+use models::Set;
+use values::Cell;
 
 /// A call that comes at its turn, with what it finds there.
 #[derive(Clone, Copy)]

@@ -1,10 +1,9 @@
 ghost use Rattle.std.specs.Prelude.{◌≡◌, ◌*◌, ◌≤◌, length};
 
 use crate::places::{forged_place, row_place};
-use models::classes::Class;
-use protocol::stages::Stage;
-use values::cells::Cell;
-use values::kinds::Kind;
+use models::Class;
+use protocol::Stage;
+use values::{Cell, Kind};
 
 /// What was sent in a round, as it lies in the cells.
 #[derive(Drop)]

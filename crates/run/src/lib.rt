@@ -1,15 +1,19 @@
 //! The run: the machine in code, over lent memory.
 #![tactic(auto)]
 
-pub mod calls;
+mod calls;
 mod checks;
 mod choosing;
 mod closing;
 mod dues;
 mod hearing;
 mod places;
-pub mod play;
+mod plays;
 mod rounds;
-pub mod run;
+mod run;
 mod store;
 mod turns;
+
+pub use calls::{Answer, Call, Opening, Place};
+pub use plays::play;
+pub use run::Run;

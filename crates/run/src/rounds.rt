@@ -6,10 +6,9 @@ ghost use Rattle.run.specs.Hearing.{hears, IsWithin};
 
 use crate::choosing::{chosen, held_by, settled};
 use crate::hearing::Sent;
-use models::classes::Counts;
-use protocol::stages::{Stage, coordinator};
-use values::cells::{Cell, Quorum, winner};
-use values::kinds::Kind;
+use models::Counts;
+use protocol::{Stage, coordinator};
+use values::{Cell, Kind, Quorum, winner};
 
 // What each receiver chooses among the cells that it hears in column 0.
 fn vote<K: Kind>(

@@ -8,15 +8,12 @@ use crate::closing;
 use crate::dues::Due;
 use crate::store::{clear_forged, decision_at, fill_opened, put_forged};
 use crate::turns::{Block, Seating, Turn};
-use models::Model;
-use models::sets::Set;
-use protocol::theorems::{
+use models::{Model, Set};
+use protocol::{
     decisions_agree, rounds_under_any_counts, stamped_aware_runs_algorithm_2,
     stamped_carried_runs_algorithm_3, the_machine_obeys_its_laws, unaware_runs_algorithm_1,
 };
-use values::cells::Cell;
-use values::kinds::Kind;
-use values::refusals::Refusal;
+use values::{Cell, Kind, Refusal};
 
 /// A run over lent cells.
 #[derive(Drop)]

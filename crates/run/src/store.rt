@@ -7,8 +7,7 @@ ghost use Rattle.run.specs.Views.{kept_in};
 
 use crate::calls::{Opening, Place};
 use crate::places::{decision_place, forged_place};
-use values::cells::Cell;
-use values::kinds::Kind;
+use values::{Cell, Kind};
 
 /// Empties cells.
 pub(crate) fn clear<R: Copy>(cells: &mut [Cell<R>])

@@ -1,7 +1,6 @@
 ghost use Rattle.std.specs.Prelude.{◌≡◌, ◌≤◌, ◌<◌, ◌+◌, suc};
 
-use models::classes::{Class, Counts};
-use models::sets::Set;
+use models::{Class, Counts, Set};
 
 /// A block that was opened.
 #[derive(Clone, Copy)]

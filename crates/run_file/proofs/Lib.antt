@@ -1,6 +1,6 @@
 mod Lining
 mod Voting
-mod Listing
+mod Listed
 mod Outcomes
 mod Shortness
 mod Fitting

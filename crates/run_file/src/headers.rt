@@ -1,6 +1,6 @@
 use crate::words::word;
-use models::standards::Standard;
-use values::refusals::Refusal;
+use models::Standard;
+use values::Refusal;
 
 /// The kind of the values in a run file.
 #[derive(Clone, Copy, PartialEq, Eq, Debug)]

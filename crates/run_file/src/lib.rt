@@ -3,7 +3,7 @@
 
 mod headers;
 mod lines;
-pub mod listings;
+mod listings;
 mod parts;
 mod pieces;
 mod reading;
@@ -11,3 +11,5 @@ mod stops;
 mod texts;
 mod votes;
 mod words;
+
+pub use listings::{Listing, list};

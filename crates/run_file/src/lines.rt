@@ -2,10 +2,8 @@ ghost use Rattle.std.specs.Prelude.{◌≡◌, ◌≤◌, ◌<◌, ℕ, length, 
 ghost use Rattle.run_file.specs.Lines.{all_zero};
 
 use crate::words::word;
-use run::calls::Place;
-use values::cells::Cell;
-use values::kinds::Kind;
-use values::refusals::Refusal;
+use run::Place;
+use values::{Cell, Kind, Refusal};
 
 // The bytes of a line before its value.
 pub(crate) const LINE_HEAD: usize = 6;

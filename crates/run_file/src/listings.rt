@@ -11,16 +11,10 @@ use crate::reading::{MOST_CONTROLLERS, read_parts};
 use crate::stops::Stop;
 use crate::texts::{write_controllers, write_first_line, write_refused_line};
 use crate::votes::perform;
-use models::stamps::Stamped;
-use models::{LawfulModel, Model};
-use protocol::theorems::decisions_agree;
-use run::run::Run;
-use values::buffers::Buffer;
-use values::cells::Cell;
-use values::kinds::Kind;
-use values::refusals::Refusal;
-use values::setpoints::Setpoint;
-use values::sheets::{Shares, Sheet};
+use models::{LawfulModel, Model, Stamped};
+use protocol::decisions_agree;
+use run::Run;
+use values::{Buffer, Cell, Kind, Refusal, Setpoint, Shares, Sheet};
 
 /// What was listed: the length of the text, and the number of the refusal, which is 0 if there is none.
 #[derive(Clone, Copy, PartialEq, Eq, Debug)]

@@ -4,8 +4,8 @@ use crate::headers::Header;
 use crate::lines::LINE_HEAD;
 use crate::pieces::Pieces;
 use crate::words::word;
-use models::sets::Set;
-use values::refusals::Refusal;
+use models::Set;
+use values::Refusal;
 
 // Where the proposals start, and the bytes of a set.
 const PROPOSALS_START: usize = 16;

@@ -9,8 +9,7 @@ use crate::headers::Header;
 use crate::lines::Line;
 use crate::parts::Parts;
 use crate::pieces::Pieces;
-use values::kinds::Kind;
-use values::refusals::Refusal;
+use values::{Kind, Refusal};
 
 /// No block has more controllers.
 pub(crate) const MOST_CONTROLLERS: usize = 16;

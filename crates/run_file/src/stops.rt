@@ -1,6 +1,6 @@
 ghost use Rattle.std.specs.Prelude.{◌≡◌, None};
 
-use values::refusals::Refusal;
+use values::Refusal;
 
 /// Why nothing more is done with a run file: the refusal, and the round of the call that was refused, if it was a round's.
 // A close has its round too, though none is refused here: it comes where a round is seated.

@@ -7,11 +7,8 @@ ghost use Rattle.run_file.specs.Texts.{first_line, shown, controller_lines, roun
 
 use crate::headers::Header;
 use crate::stops::Stop;
-use run::run::Run;
-use values::buffers::Buffer;
-use values::cells::Cell;
-use values::kinds::Kind;
-use values::refusals::Refusal;
+use run::Run;
+use values::{Buffer, Cell, Kind, Refusal};
 
 /// Writes the first line of a listing.
 pub(crate) fn write_first_line(header: &Header, out: &mut Buffer)

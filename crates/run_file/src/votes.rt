@@ -15,12 +15,9 @@ use crate::pieces::Pieces;
 use crate::reading::MOST_CONTROLLERS;
 use crate::stops::Stop;
 use crate::words::word;
-use models::Model;
-use models::sets::Set;
-use run::calls::Opening;
-use run::run::Run;
-use values::kinds::Kind;
-use values::refusals::Refusal;
+use models::{Model, Set};
+use run::{Opening, Run};
+use values::{Kind, Refusal};
 
 // What a call of a round answered, with the round where it was refused.
 fn in_round(answer: Result<(), Refusal>, round: u16) -> Result<(), Stop>

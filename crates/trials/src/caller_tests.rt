@@ -5,12 +5,9 @@ use crate::callers::played::perform_all;
 use crate::callers::rounds::{Plan, run_plans};
 use crate::helpers::{DONE, decided, decision, open, seat};
 use crate::rising::Rising;
-use models::sets::Set;
-use models::standards::Standard;
-use run::calls::{Answer, Call, Opening, Place};
-use run::run::Run;
-use values::refusals::Refusal;
-use values::setpoints::Setpoint;
+use models::{Set, Standard};
+use run::{Answer, Call, Opening, Place, Run};
+use values::{Refusal, Setpoint};
 
 const ALL_480: [u16; 6] = [480; 6];
 

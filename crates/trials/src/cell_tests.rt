@@ -1,7 +1,5 @@
 use crate::helpers::{quorum, shares};
-use values::cells::{same_value, tally, winner};
-use values::setpoints::Setpoint;
-use values::sheets::Sheet;
+use values::{Setpoint, Sheet, same_value, tally, winner};
 
 #[test]
 fn empty_cells_count_for_neither(rt: HostRuntime) {

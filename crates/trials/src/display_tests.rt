@@ -1,8 +1,6 @@
-use models::standards::UnknownModel;
+use models::UnknownModel;
 use std::test::Fail;
-use values::kinds::Kind;
-use values::refusals::Refusal;
-use values::setpoints::Setpoint;
+use values::{Kind, Refusal, Setpoint};
 
 // A display promises its text only where it succeeds, so one that always fails would keep that promise.
 #[test]

@@ -1,9 +1,7 @@
 use crate::helpers::shares;
-use models::standards::Standard;
-use run_file::listings::{Listing, list};
-use values::buffers::Buffer;
-use values::cells::Cell;
-use values::sheets::Shares;
+use models::Standard;
+use run_file::{Listing, list};
+use values::{Buffer, Cell, Shares};
 
 // Two controllers, no upsets, six rounds.
 const WORKED: [u8; 34] = [

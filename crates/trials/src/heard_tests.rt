@@ -1,11 +1,8 @@
 use crate::helpers::{DONE, follow, forge, open, perform, seat};
-use models::Model;
-use models::stamps::Stamped;
-use models::standards::Standard;
-use run::calls::Call;
-use run::run::Run;
+use models::{Model, Stamped, Standard};
+use run::{Call, Run};
 use std::process::Abort;
-use values::setpoints::Setpoint;
+use values::Setpoint;
 
 const NONE: Option<u16> = None;
 

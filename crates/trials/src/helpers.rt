@@ -1,15 +1,8 @@
 //! What several tests make or read.
-use models::Model;
-use models::classes::Counts;
-use models::moves::Moved;
-use models::sets::Set;
-use run::calls::{Answer, Call, Opening, Place};
-use run::run::Run;
+use models::{Counts, Model, Moved, Set};
+use run::{Answer, Call, Opening, Place, Run};
 use std::process::Abort;
-use values::cells::{Cell, Quorum};
-use values::kinds::Kind;
-use values::setpoints::Setpoint;
-use values::sheets::Shares;
+use values::{Cell, Kind, Quorum, Setpoint, Shares};
 
 pub fn shares(zone0: u16, zone1: u16, zone2: u16, zone3: u16) -> Shares {
     Shares {

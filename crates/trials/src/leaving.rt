@@ -3,11 +3,7 @@ ghost use Rattle.models.specs.Laws.{Few};
 ghost use Rattle.trials.specs.Leaving.{leaving};
 ghost use Rattle.std.proofs.Common.{rules};
 
-use models::classes::{Class, Counts};
-use models::moves::Moved;
-use models::sets::Set;
-use models::stamps::Stamped;
-use models::{LawfulModel, Model as FaultModel};
+use models::{Class, Counts, LawfulModel, Model as FaultModel, Moved, Set, Stamped};
 
 /// A model of faults as a stranger would build one: a fault stays or leaves for good, and who was left keeps silent.
 #[derive(Clone, Copy, PartialEq, Eq, Debug)]

@@ -1,9 +1,6 @@
 use crate::helpers::from_to;
 use crate::leaving::{Leaving, may_stay, may_stay_stamped};
-use models::Model;
-use models::classes::Class;
-use models::sets::Set;
-use models::standards::Standard;
+use models::{Class, Model, Set, Standard};
 
 #[test]
 fn a_strangers_model_lets_faults_leave_only(rt: HostRuntime) {

@@ -1,8 +1,5 @@
 use crate::helpers::{bel, from_to};
-use models::Model;
-use models::classes::Class;
-use models::stamps::Stamped;
-use models::standards::{Standard, UnknownModel};
+use models::{Class, Model, Stamped, Standard, UnknownModel};
 
 // The classes of controllers 0 to 3 as the faults move from {0, 1} to {1, 2}: left, stayed, came, in neither set.
 fn classes<M: Model>(model: &M) -> [Class; 4] {

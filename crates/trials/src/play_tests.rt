@@ -1,10 +1,8 @@
 use crate::helpers::{DONE, decided, decision, forge, open, seat};
-use models::standards::Standard;
-use run::calls::{Answer, Call};
-use run::play::play;
+use models::Standard;
+use run::{Answer, Call, play};
 use std::test::Fail;
-use values::refusals::Refusal;
-use values::setpoints::Setpoint;
+use values::{Refusal, Setpoint};
 
 // What lies where no answer was put.
 const LEFT: Result<Answer<u16>, Refusal> = Err(Refusal::TextRoom);

@@ -1,4 +1,4 @@
-use values::refusals::Refusal;
+use values::Refusal;
 
 #[test]
 fn refusals_have_their_numbers(rt: HostRuntime) {

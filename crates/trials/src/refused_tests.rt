@@ -1,8 +1,7 @@
 use crate::helpers::{DONE, ask, decided, decision, follow, forge, open, perform, seat};
-use models::standards::Standard;
-use run::calls::Call;
-use run::run::Run;
-use values::setpoints::Setpoint;
+use models::Standard;
+use run::{Call, Run};
+use values::Setpoint;
 
 // Where several refusals apply, the first in the order of the checks is given; what else a call breaks stands beside it.
 

@@ -1,10 +1,7 @@
 ghost use Rattle.trials.specs.Rising.{rising};
 ghost use Rattle.std.proofs.Common.{rules};
 
-use models::classes::{Class, Counts};
-use models::moves::Moved;
-use models::standards::Standard;
-use models::{LawfulModel, Model as FaultModel};
+use models::{Class, Counts, LawfulModel, Model as FaultModel, Moved, Standard};
 
 /// A model made of one of the table by narrowing its moves: as unaware, but the number of the set never falls, so that a
 /// single fault stays or moves to a controller with a higher number.

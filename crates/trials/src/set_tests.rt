@@ -1,4 +1,4 @@
-use models::sets::Set;
+use models::Set;
 
 #[test]
 fn bit_i_stands_for_controller_i(rt: HostRuntime) {

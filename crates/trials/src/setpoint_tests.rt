@@ -1,7 +1,5 @@
 use crate::helpers::read_row;
-use values::buffers::Buffer;
-use values::kinds::Kind;
-use values::setpoints::Setpoint;
+use values::{Buffer, Kind, Setpoint};
 
 #[test]
 fn range_is_200_to_900(rt: HostRuntime) {

@@ -1,11 +1,8 @@
 use crate::helpers::shares;
-use models::sets::Set;
-use models::standards::Standard;
-use run::calls::{Opening, Place};
-use run::run::Run;
+use models::{Set, Standard};
+use run::{Opening, Place, Run};
 use std::process::Abort;
-use values::refusals::Refusal;
-use values::sheets::{Shares, Sheet};
+use values::{Refusal, Shares, Sheet};
 
 // Rounds in which nobody is seated.
 fn pass(run: &mut Run<Sheet>, rounds: usize) -> Result<(), Refusal> {

@@ -1,7 +1,5 @@
 use crate::helpers::{read_row, shares};
-use values::buffers::Buffer;
-use values::kinds::Kind;
-use values::sheets::Sheet;
+use values::{Buffer, Kind, Sheet};
 
 #[test]
 fn shares_total_at_most_1000(rt: HostRuntime) {

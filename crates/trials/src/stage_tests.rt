@@ -1,4 +1,4 @@
-use protocol::stages::{Stage, coordinator};
+use protocol::{Stage, coordinator};
 
 #[test]
 fn a_block_of_two_maintains_after_two_phases(rt: HostRuntime) {

@@ -1,9 +1,8 @@
 use crate::helpers::{DONE, Outcome, ask, decided, decision, follow, forge, open, perform, seat};
-use models::standards::Standard;
-use run::calls::Call;
-use run::run::Run;
+use models::Standard;
+use run::{Call, Run};
 use std::process::Abort;
-use values::setpoints::Setpoint;
+use values::Setpoint;
 
 const OLD: Option<u16> = Some(777);
 

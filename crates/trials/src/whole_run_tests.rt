@@ -1,17 +1,10 @@
 ghost use Rattle.std.specs.Prelude.{◌<◌, ◌≤◌};
 
 use crate::helpers::{DONE, ask, forge, open, perform, seat};
-use models::Model;
-use models::classes::Class;
-use models::moves::Moved;
-use models::sets::Set;
-use models::stamps::Stamped;
-use models::standards::Standard;
-use run::calls::Call;
-use run::run::Run;
+use models::{Class, Model, Moved, Set, Stamped, Standard};
+use run::{Call, Run};
 use std::process::Abort;
-use values::cells::Cell;
-use values::setpoints::Setpoint;
+use values::{Cell, Setpoint};
 
 const OLD: Cell<u16> = Some(777);
 

@@ -1,9 +1,7 @@
 use crate::helpers::quorum;
 use crate::windows::Window;
 use std::test::Fail;
-use values::buffers::Buffer;
-use values::cells::{tally, winner};
-use values::kinds::Kind;
+use values::{Buffer, Kind, tally, winner};
 
 #[test]
 fn a_strangers_kind_is_counted(rt: HostRuntime) {

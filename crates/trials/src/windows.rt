@@ -1,8 +1,6 @@
 ghost use Rattle.std.specs.Prelude.{◌≤◌};
 
-use values::buffers::Buffer;
-use values::kinds::Kind;
-use values::words::words;
+use values::{Buffer, Kind, words};
 
 /// A part of the day in which vents may open, in minutes from midnight: from one to another that is not before it.
 #[derive(Clone, Copy, PartialEq, Eq, Debug)]

@@ -2,7 +2,7 @@ ghost use Rattle.std.specs.Prelude.{◌≡◌, ◌≤◌, Some};
 
 use crate::buffers::Buffer;
 use crate::kinds::Kind;
-use crate::words::words;
+use crate::reading::words;
 use std::fmt;
 
 /// Supply water in tenths of a degree Celsius, from 200 to 900.

@@ -2,7 +2,7 @@ ghost use Rattle.std.specs.Prelude.{◌+◌, ◌≤◌};
 
 use crate::buffers::Buffer;
 use crate::kinds::Kind;
-use crate::words::words;
+use crate::reading::words;
 
 /// How the warm water is shared among four zones, in thousandths. No sheet shares out more than all of it.
 #[derive(Clone, Copy, PartialEq, Eq, Debug)]

@@ -7,10 +7,7 @@ ghost use Rattle.poll.specs.Polls.{pieces, proposed, cells_of, sized, shown, uns
 
 use crate::polls::{Fault, Poll, Standing};
 use std::alloc::{AllocError, Global};
-use values::cells::{Cell, tally};
-use values::kinds::Kind;
-use values::refusals::Refusal;
-use values::setpoints::Setpoint;
+use values::{Cell, Kind, Refusal, Setpoint, tally};
 
 // What each controller proposes, two bytes each.
 fn read_proposals(heap: Global, input: &[u8]) -> Result<Vec<Result<Setpoint, Refusal>>, AllocError>

@@ -1,13 +1,9 @@
 ghost use Rattle.std.specs.Prelude.{◌++◌, map, length, IfOk};
 ghost use Rattle.trials.specs.Callers.{Concludes};
 
-use models::LawfulModel;
-use models::sets::Set;
-use run::calls::Opening;
-use run::run::Run;
-use values::cells::Cell;
-use values::kinds::Kind;
-use values::refusals::Refusal;
+use models::{LawfulModel, Set};
+use run::{Opening, Run};
+use values::{Cell, Kind, Refusal};
 
 /// Opens a block, runs a round for each of some sets and asks a controller; then runs a round for each further set and asks
 /// another. Nothing is forged. The first refusal ends it.

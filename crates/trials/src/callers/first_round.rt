@@ -3,12 +3,9 @@ ghost use Rattle.values.specs.Rules.{means};
 ghost use Rattle.run.specs.Runs.{setting, state};
 ghost use Rattle.trials.specs.FirstRounds.{FirstRound};
 
-use models::sets::Set;
-use models::standards::Standard;
-use run::calls::Opening;
-use run::run::Run;
-use values::kinds::Kind;
-use values::refusals::Refusal;
+use models::{Set, Standard};
+use run::{Opening, Run};
+use values::{Kind, Refusal};
 
 /// Opens a block under unaware and runs its first round, in which nothing is forged. It is refused where the run is not idle.
 pub fn first_round<K: Kind>(

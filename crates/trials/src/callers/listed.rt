@@ -2,9 +2,8 @@ ghost use Rattle.std.specs.Prelude.{◌≡◌, ◌≢◌, None, length, take, If
 ghost use Rattle.run_file.specs.Listings.{lent, listing_of};
 ghost use Rattle.trials.specs.Listed.{Agreed};
 
-use run_file::listings::list;
-use values::cells::Cell;
-use values::sheets::Shares;
+use run_file::list;
+use values::{Cell, Shares};
 
 /// Lists a file, and answers the length of the text if the file tells a vote.
 pub fn list_vote(

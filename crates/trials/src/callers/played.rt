@@ -2,11 +2,8 @@ ghost use Rattle.std.specs.Prelude.{◌≡◌, min, length};
 ghost use Rattle.trials.specs.Played.{AllSame, AllProposed};
 
 use models::LawfulModel;
-use run::calls::{Answer, Call};
-use run::play::play;
-use values::cells::Cell;
-use values::kinds::Kind;
-use values::refusals::Refusal;
+use run::{Answer, Call, play};
+use values::{Cell, Kind, Refusal};
 
 /// Performs calls, puts their answers into lent memory, and tells how many were performed.
 pub fn perform_all<K: Kind, M: LawfulModel>(

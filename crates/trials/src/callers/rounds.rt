@@ -1,13 +1,9 @@
 ghost use Rattle.std.specs.Prelude.{ℕ, [], ◌∷◌, map, IfOk};
 ghost use Rattle.trials.specs.Callers.{Spared, Same, RunsRounds};
 
-use models::sets::Set;
-use models::{LawfulModel, Model};
-use run::calls::{Opening, Place};
-use run::run::Run;
-use values::cells::Cell;
-use values::kinds::Kind;
-use values::refusals::Refusal;
+use models::{LawfulModel, Model, Set};
+use run::{Opening, Place, Run};
+use values::{Cell, Kind, Refusal};
 
 /// A round as a user plans it: who is seated, and what is forged.
 #[derive(Clone, Copy)]

@@ -3,7 +3,7 @@ use Rattle.values.specs.Rules.{means}
 use Rattle.values.specs.Cells.{Held, shows}
 use Rattle.protocol.specs.Machine.{started}
 use Rattle.run.proofs.Filling.{fill_more}
-use Rattle.run.proofs.Opening.{member_started, other_started, opens}
+use Rattle.run.proofs.Opened.{member_started, other_started, opens}
 use Rattle.run.proofs.Parts.{opened_store, opened_past, past_stays}
 use Rattle.run.proofs.store.fill_opened.Goals as goal
 use Rattle.run.proofs.store.fill_opened.Goals.{then-holds, else-holds}

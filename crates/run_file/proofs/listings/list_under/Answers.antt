@@ -6,7 +6,7 @@ use Rattle.run_file.specs.Texts.{first_line, controller_lines}
 use Rattle.run_file.specs.Votes.{rounds_from, run_through}
 use Rattle.run_file.specs.Listings.{stop, setting_of, cells_used, listing}
 use Rattle.run_file.specs.InCode.{sets_in, lines_in, opens}
-use Rattle.run_file.proofs.Listing.{puts_none}
+use Rattle.run_file.proofs.Listed.{puts_none}
 use Rattle.run_file.proofs.Outcomes.{lines_checked, outcome_is, past_used, refused_is}
 use Rattle.run_file.proofs.Shortness.{decision_sound}
 use Rattle.run_file.proofs.listings.list_under.Goals as goal

@@ -5,7 +5,7 @@ use Rattle.protocol.specs.Machine.{Decision}
 use Rattle.run.specs.Calls.{said_cell}
 use Rattle.run.specs.Runs.{setting, state, Performs}
 use Rattle.run_file.specs.Texts.{shown, controller_line, controller_lines}
-use Rattle.run_file.proofs.Listing.{lines_more}
+use Rattle.run_file.proofs.Listed.{lines_more}
 use Rattle.run_file.proofs.texts.write_controllers.Goals as goal
 
 pub loop-controller-preserved : goal.loop-controller-preserved

@@ -4,7 +4,7 @@ use Rattle.std.specs.Simd.{first_chunks}
 use Rattle.std.proofs.lemmas.List.{ext_get_or, get_or-map, length-map}
 use Rattle.std.proofs.lemmas.Bool.{cond-true, eq-eqb}
 use Rattle.values.proofs.Bytes.{words_pairs, made_at}
-use Rattle.values.proofs.words.words.Goals as goal
+use Rattle.values.proofs.reading.words.Goals as goal
 
 pub returns : goal.returns
 returns g c =

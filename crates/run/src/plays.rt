@@ -11,10 +11,8 @@ ghost use Rattle.run.specs.Promises.{block_size, replies, log_of, TellsDecisions
 use crate::calls::{Answer, Call};
 use crate::run::Run;
 use models::Model;
-use protocol::theorems::decisions_agree;
-use values::cells::Cell;
-use values::kinds::Kind;
-use values::refusals::Refusal;
+use protocol::decisions_agree;
+use values::{Cell, Kind, Refusal};
 
 // Puts an answer at its place. Over any type: where an index into answers lies in memory is then plain.
 fn put<A: Copy>(answers: &mut [A], at: usize, answer: A)

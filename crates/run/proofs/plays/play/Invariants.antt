@@ -1,6 +1,6 @@
 use Rattle.std.proofs.Common.{◌≡◌}
 use Rattle.run.proofs.Playing.{InPlay}
-use Rattle.run.proofs.play.play.Given as goal
+use Rattle.run.proofs.plays.play.Given as goal
 
 abbrev pub invariant-loop-at : goal.invariant-loop-at
 invariant-loop-at g l =

@@ -5,7 +5,7 @@ use Rattle.run.specs.Calls.{asked}
 use Rattle.run.specs.Runs.{setting_over, state}
 use Rattle.run.specs.Promises.{block_size}
 use Rattle.run.proofs.Playing.{InPlay, none_played, found, one_played, law_told, decisions_told, past_end}
-use Rattle.run.proofs.play.play.Goals as goal
+use Rattle.run.proofs.plays.play.Goals as goal
 
 pub loop-at-init : goal.loop-at-init
 loop-at-init g c = (none_played g.K.Kind (g.M.Model.meaning c.args.model.now) c.args.calls.now c.args.cells.now c.new-run.result c.args.answers.now c.new-run.ensures.idle, refl {a = c.new-run.result.cells.ghost_name})
