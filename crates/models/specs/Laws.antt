@@ -4,6 +4,7 @@ use Rattle.values.specs.Counting.{count}
 use Rattle.models.specs.declared.classes.Class.{Class}
 use Rattle.models.specs.declared.classes.Class.TheVariants.{Honest, Silent, Uniform, Free}
 use Rattle.models.specs.declared.classes.Counts.{Counts}
+use Rattle.models.specs.declared.sets.TheConstants.{MOST_CONTROLLERS}
 use Rattle.models.specs.Sets.{has, members}
 
 -- who is not honest; who is free; who is free or uniform, and so sends what was forged
@@ -45,7 +46,7 @@ pub record Capped (m : Meaning) : Type 0 where
 
 -- a set of at most t controllers, where a t above 15 is read as 15
 pub record Few (set t : ℕ) : Type 0 where
-  pub bits : set < 2 ^ 16
+  pub bits : set < 2 ^ MOST_CONTROLLERS
   pub few : members set ≤ min t 15
 
 -- an allowed move between sets of at most t members
@@ -57,13 +58,13 @@ pub record Move (allowed : ℕ → ℕ → ℕ → Bool) (before now t : ℕ) : 
 -- how the controllers behave after a move, by their classes and the model's counts
 pub record Kept (class : ℕ → Class) (most : Counts) (before now : ℕ) : Type 0 where
   -- 1. whoever was seated before is not honest
-  pub seated_before : (i : ℕ) → i < 16 → has before i ≡ true → class i ≢ Honest
+  pub seated_before : (i : ℕ) → i < MOST_CONTROLLERS → has before i ≡ true → class i ≢ Honest
   -- 2. whoever is in neither set is honest
-  pub never_seated : (i : ℕ) → i < 16 → has before i ≡ false → has now i ≡ false → class i ≡ Honest
+  pub never_seated : (i : ℕ) → i < MOST_CONTROLLERS → has before i ≡ false → has now i ≡ false → class i ≡ Honest
   -- 3. at most b are not honest, at most e are free, and at most l are free or uniform
-  pub faults : count (λ i. faulty (class i)) 16 ≤ most.b
-  pub frees : count (λ i. free (class i)) 16 ≤ most.e
-  pub forgers : count (λ i. forging (class i)) 16 ≤ most.l
+  pub faults : count (λ i. faulty (class i)) MOST_CONTROLLERS ≤ most.b
+  pub frees : count (λ i. free (class i)) MOST_CONTROLLERS ≤ most.e
+  pub forgers : count (λ i. forging (class i)) MOST_CONTROLLERS ≤ most.l
 
 pub record Lawful (m : Meaning) : Type 0 where
   -- laws 1 to 3 hold after every allowed move between sets of at most t members
@@ -76,6 +77,6 @@ pub record Reached (m : Meaning) : Type 0 where
   pub before : ℕ
   pub now : ℕ
   pub move : Move m.allowed before now 1
-  pub faults : count (λ i. faulty (m.class before now 1 i)) 16 ≡ (m.counts 1).b
-  pub frees : count (λ i. free (m.class before now 1 i)) 16 ≡ (m.counts 1).e
-  pub forgers : count (λ i. forging (m.class before now 1 i)) 16 ≡ (m.counts 1).l
+  pub faults : count (λ i. faulty (m.class before now 1 i)) MOST_CONTROLLERS ≡ (m.counts 1).b
+  pub frees : count (λ i. free (m.class before now 1 i)) MOST_CONTROLLERS ≡ (m.counts 1).e
+  pub forgers : count (λ i. forging (m.class before now 1 i)) MOST_CONTROLLERS ≡ (m.counts 1).l

@@ -12,7 +12,7 @@ mod standards;
 
 pub use classes::{Class, Counts};
 pub use moves::Moved;
-pub use sets::Set;
+pub use sets::{MOST_CONTROLLERS, Set};
 pub use stamps::{Stamped, stamps_keep_the_laws};
 pub use standards::{Standard, UnknownModel, counts_are_reached};
 

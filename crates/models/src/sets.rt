@@ -1,6 +1,9 @@
 ghost use Rattle.std.specs.Prelude.{◌≡◌};
 ghost use Rattle.models.specs.Sets.{has, members};
 
+/// No block has more controllers: a set has a bit for each.
+pub const MOST_CONTROLLERS: usize = 16;
+
 /// A set of controllers: bit i stands for controller i.
 // Sixteen bits and no set of std, which would allocate: a set comes from a file as this number.
 #[derive(Clone, Copy, PartialEq, Eq, Debug)]
@@ -12,7 +15,7 @@ impl Set {
         ensures { result ≡ has self.0 controller }
     {
         let bits = self.0;
-        controller < 16 && (bits >> controller) & 1 == 1
+        controller < MOST_CONTROLLERS && (bits >> controller) & 1 == 1
     }
 
     /// How many controllers the set holds.

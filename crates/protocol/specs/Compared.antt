@@ -4,6 +4,7 @@ use Rattle.values.specs.Cells.{Held}
 use Rattle.models.specs.declared.classes.Class.{Class}
 use Rattle.models.specs.declared.classes.Class.TheVariants.{Honest, Silent, Uniform, Free}
 use Rattle.models.specs.declared.standards.Standard.TheVariants.{Aware, Unaware, Carried}
+use Rattle.models.specs.declared.sets.TheConstants.{MOST_CONTROLLERS}
 use Rattle.models.specs.Laws.{Meaning}
 use Rattle.models.specs.Sets.{has}
 use Rattle.models.specs.Standards.{standard}
@@ -23,7 +24,7 @@ sending Free = Unbound
 
 -- a block of a size that open accepts, with the counts of a model
 pub record Sized (m : Meaning) (b : Block) : Type 0 where
-  pub size : b.n ≤ 16
+  pub size : b.n ≤ MOST_CONTROLLERS
   pub faults : b.t < b.n
   pub counts : b.counts ≡ m.counts b.t
   pub resilient : (m.counts b.t).b + (m.counts b.t).e + (m.counts b.t).l < b.n

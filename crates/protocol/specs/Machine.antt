@@ -44,8 +44,10 @@ use Rattle.values.specs.Cells.{Held}
 use Rattle.models.specs.declared.classes.Class.{Class}
 use Rattle.models.specs.declared.classes.Class.TheVariants.{Honest, Silent, Uniform, Free}
 use Rattle.models.specs.declared.classes.Counts.{Counts}
+use Rattle.models.specs.declared.sets.TheConstants.{MOST_CONTROLLERS}
 use Rattle.models.specs.Sets.{has, members}
 use Rattle.models.specs.Laws.{Meaning}
+use Rattle.protocol.specs.declared.stages.TheConstants.{MOST_ROUNDS}
 use Rattle.protocol.specs.Stages.{stage_of, columns_of}
 use Rattle.protocol.specs.Rounds.{Terms, Memory, closing}
 
@@ -119,7 +121,7 @@ unforgeable Free receiver = false
 -- refusals in the order of their checks; that of a wrong turn goes before all of them
 abbrev pub open_refusal : Setting → Meaning → (n t : ℕ) → List (List ℕ) → (initial : ℕ) → Option Refusal
 open_refusal x m n t proposals initial =
-    BlockSize when (n == 0 || nat_lt 16 n)
+    BlockSize when (n == 0 || nat_lt MOST_CONTROLLERS n)
     then FaultCount when nat_le n t
     then Resilience when nat_le n ((m.counts t).b + (m.counts t).e + (m.counts t).l)
     then StoreSize when nat_lt x.cells (needed n)
@@ -128,7 +130,7 @@ open_refusal x m n t proposals initial =
 
 abbrev pub seat_refusal : Meaning → Block → (set : ℕ) → Option Refusal
 seat_refusal m b set =
-    RoundLimit when nat_le 1000 b.round
+    RoundLimit when nat_le MOST_ROUNDS b.round
     then SetMembers when misfits b.n b.t set
     then ForbiddenMove when not (m.allowed b.last set b.t)
 

@@ -5,7 +5,7 @@
 mod stages;
 mod theorems;
 
-pub use stages::{Stage, coordinator};
+pub use stages::{MOST_ROUNDS, Stage, coordinator};
 pub use theorems::{
     decisions_agree, rounds_under_any_counts, stamped_aware_runs_algorithm_2,
     stamped_carried_runs_algorithm_3, the_law_is_not_empty, the_machine_obeys_its_laws,

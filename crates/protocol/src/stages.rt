@@ -1,6 +1,9 @@
 ghost use Rattle.std.specs.Prelude.{◌≡◌};
 ghost use Rattle.protocol.specs.Stages.{stage_of, columns_of, coordinator_of};
 
+/// A run has no more rounds.
+pub const MOST_ROUNDS: usize = 1000;
+
 /// What the controllers of a block do in a round.
 #[derive(Clone, Copy, PartialEq, Eq, Debug)]
 pub enum Stage {

@@ -7,7 +7,9 @@ use Rattle.values.specs.Rules.{Rules}
 use Rattle.values.specs.Cells.{seen}
 use Rattle.models.specs.Sets.{has}
 use Rattle.protocol.specs.Rounds.{Memory, blank}
+use Rattle.run.specs.Stores.{Store, store}
 use Rattle.run.specs.Views.{kept_in}
+use Rattle.run.specs.Closing.{Empties}
 use Rattle.run.proofs.Filling.{seen_written, seen_elsewhere}
 use Rattle.run.proofs.Renewing.{memory_is, inside}
 
@@ -68,3 +70,13 @@ module _ {R : Type 0} (k : Rules) (plain : R → List ℕ) (n : ℕ) where
 
     pub free_more : test ≡ false → rows' ≡ rows → v' ≡ v → decisions' ≡ decisions → Emptied members rows0 v0 decisions0 rows' v' decisions' (done + 1)
     free_more held rows_are v_is decisions_is i lt = rw (rows_are, v_is, decisions_is) (so_far i lt ∙ none_more (has members) i done blank (kept rows0 v0 decisions0 i) (sym asked ∙ held))
+
+  -- at the end, in the cells
+  pub all_emptied : (members done : ℕ) (before after forged rows v decisions rows' v' decisions' : List (Option R)) → store n before ≡ record { forged = forged; rows = rows; v = v; decisions = decisions }
+      → store n after ≡ record { forged = forged; rows = rows'; v = v'; decisions = decisions' } → done ≡ n → Emptied members rows v decisions rows' v' decisions' done → Empties k plain n members before after
+  all_emptied members done before after forged rows v decisions rows' v' decisions' was is all so_far = record {
+    forged = ap (λ (s : Store R). s.forged) is ∙ sym (ap (λ (s : Store R). s.forged) was);
+    kept = λ i lt.
+        let below : nat_lt i done ≡ true = grind (arith, nat_tests) in
+        ap (λ s. kept_in k plain n s i) is ∙ so_far i lt ∙ ap (λ test. cond (test && has members i) blank (kept rows v decisions i)) below ∙ sym (ap (λ s. cond (has members i) blank (kept_in k plain n s i)) was);
+  }

@@ -52,12 +52,12 @@ module _ {R : Type 0} (k : Rules) (plain : R → List ℕ) (n : ℕ) (classes : 
 
 module _ {V R : Type 0} {kind : Ghosts V R} (s : Sent V R kind) where
   pub nobody : (receiver sender column : ℕ) → s.n ≤ sender → hears s receiver sender column ≡ None
-  nobody receiver sender column ge = nothing_heard kind.rules kind.plain s.n s.classes.now (store_of s) s.stage receiver sender column ge
+  nobody receiver sender column ge = nothing_heard kind.rules kind.plain s.n s.classes (store_of s) s.stage receiver sender column ge
 
   -- nor of a column that a message of a deciding round does not have
   pub no_column : (receiver sender column : ℕ) → s.stage ≡ Deciding → s.n ≤ column → hears s receiver sender column ≡ None
   unfolding told
-  no_column receiver sender column stage ge = go (class_in s.n s.classes.now sender)
+  no_column receiver sender column stage ge = go (class_in s.n s.classes sender)
     where
       go : (class : Class) → told class (sends s.stage (kept_by s sender) column) (forged_in kind.rules kind.plain s.n (store_of s) sender 0 column) (forged_in kind.rules kind.plain s.n (store_of s) sender receiver column) ≡ None
       go Honest = grind (arith, nat_tests)

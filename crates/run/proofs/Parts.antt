@@ -1,10 +1,14 @@
 -- The parts that the cells are cut into are those of the store.
-use Rattle.std.proofs.Common.{◌≡◌, ℕ, ◌+◌, ◌*◌, ◌<◌, ◌≤◌, Bool, true, false, not, nat_lt, cond, ◌&&◌, arith, refl, sym, ap, ◌∙◌, List, ◌++◌, None, Option, length, get_or, take, drop, ⊎_elim}
+use Rattle.std.proofs.Common.{◌≡◌, ℕ, ◌+◌, ◌*◌, ◌<◌, ◌≤◌, Bool, true, false, not, nat_lt, cond, ◌&&◌, arith, refl, sym, ap, ◌∙◌, List, ◌++◌, Option, length, get_or, take, drop, ⊎_elim}
+use Rattle.std.proofs.Math.Nat.{mul-le-mul_left}
+use Rattle.std.proofs.Math.Seq.{drop-append-add}
 use Rattle.std.proofs.lemmas.Bool.{cases_lt}
 use Rattle.std.proofs.lemmas.Bool.Decides.{nat_tests}
-use Rattle.std.proofs.lemmas.List.{take_at, drop_at, drop-drop, take-append-drop, length-take-le, get_or-take, get_or-drop, get_or_default}
+use Rattle.std.proofs.lemmas.List.{take_at, drop_at, take-append-le, drop-append-le, length-drop, get_or_default}
 use Rattle.std.proofs.Math.Path.{fun_ext}
 use Rattle.values.specs.Rules.{Rules}
+use Rattle.values.specs.Cells.{shows, seen}
+use Rattle.values.proofs.Seen.{seen_is}
 use Rattle.models.specs.Sets.{has}
 use Rattle.protocol.specs.Rounds.{blank}
 use Rattle.protocol.specs.Machine.{needed}
@@ -12,69 +16,62 @@ use Rattle.run.specs.declared.turns.Block.{Block}
 use Rattle.run.specs.declared.turns.Seating.{Seating}
 use Rattle.run.specs.Stores.{Store, store}
 use Rattle.run.specs.Views.{kept_in}
-use Rattle.run.specs.Closing.{renewed, left}
-use Rattle.values.specs.Cells.{shows}
-use Rattle.values.proofs.Seen.{seen_is}
+use Rattle.run.specs.Closing.{renewed, left, Renews, Empties}
 use Rattle.run.proofs.Renewing.{memory_is, inside}
 
-module _ {R : Type 0} (n : ℕ) (forged rows v decisions work rest : List (Option R)) {cells behind_forged behind_rows behind_v behind_decisions : List (Option R)}
-    (cut1 : cells ≡ forged ++ behind_forged) (cut2 : behind_forged ≡ rows ++ behind_rows) (cut3 : behind_rows ≡ v ++ behind_v)
-    (cut4 : behind_v ≡ decisions ++ behind_decisions) (cut5 : behind_decisions ≡ work ++ rest)
-    (forged_size : length forged ≡ n * n * n) (rows_size : length rows ≡ n * n) (v_size : length v ≡ n) (decisions_size : length decisions ≡ n) (work_size : length work ≡ n * n + 3 * n) where
-  front : {X : Type 0} {xs : List X} (p q : List X) (m : ℕ) → xs ≡ p ++ q → length p ≡ m → take m xs ≡ p
-  front p q m cut size = ap (take m) cut ∙ take_at p q m size
+-- no block needs more cells than the largest
+pub most_cells : (n : ℕ) → n ≤ 16 → n * n * n + n * n + 2 * n + (n * n + 3 * n) ≤ 4688
+most_cells n le =
+    let square : n * n ≤ n * 16 = mul-le-mul_left n le in
+    let cube : n * n * n ≤ n * n * 16 = mul-le-mul_left (n * n) le in
+    omega arith
 
-  back : {X : Type 0} {xs : List X} (p q : List X) (m : ℕ) → xs ≡ p ++ q → length p ≡ m → drop m xs ≡ q
-  back p q m cut size = ap (drop m) cut ∙ drop_at p q m size
+skip : {A : Type 0} (m k : ℕ) (xs ys : List A) → length xs ≡ m → drop (m + k) (xs ++ ys) ≡ drop k ys
+skip m k xs ys size = ap (λ m. drop (m + k) (xs ++ ys)) (sym size) ∙ drop-append-add xs ys k
 
-  behind1 : drop (n * n * n) cells ≡ behind_forged
-  behind1 = back forged behind_forged (n * n * n) cut1 forged_size
+-- past the needed cells lies what lies past the work cells behind the parts
+past_parts : {A : Type 0} (n : ℕ) (forged rows v decisions behind : List A) → length forged ≡ n * n * n → length rows ≡ n * n → length v ≡ n → length decisions ≡ n
+    → drop (needed n) (forged ++ (rows ++ (v ++ (decisions ++ behind)))) ≡ drop (n * n + 3 * n) behind
+past_parts n forged rows v decisions behind forged_size rows_size v_size decisions_size =
+    let work = n * n + 3 * n in
+    let sum : needed n ≡ n * n * n + (n * n + (n + (n + work))) = omega arith in
+    ap (λ m. drop m (forged ++ (rows ++ (v ++ (decisions ++ behind))))) sum
+    ∙ skip (n * n * n) (n * n + (n + (n + work))) forged _ forged_size
+    ∙ skip (n * n) (n + (n + work)) rows _ rows_size
+    ∙ skip n (n + work) v _ v_size
+    ∙ skip n work decisions behind decisions_size
 
-  behind2 : drop (n * n) (drop (n * n * n) cells) ≡ behind_rows
-  behind2 = ap (drop (n * n)) behind1 ∙ back rows behind_rows (n * n) cut2 rows_size
+-- cells that are cut into parts
+module _ {R : Type 0} (n : ℕ) (forged rows v decisions behind : List (Option R)) {cells behind1 behind2 behind3 : List (Option R)} (cut1 : cells ≡ forged ++ behind1) (cut2 : behind1 ≡ rows ++ behind2) (cut3 : behind2 ≡ v ++ behind3) (cut4 : behind3 ≡ decisions ++ behind)
+    (forged_size : length forged ≡ n * n * n) (rows_size : length rows ≡ n * n) (v_size : length v ≡ n) (decisions_size : length decisions ≡ n) where
+  behind1_is : drop (n * n * n) cells ≡ behind1
+  behind1_is = ap (drop (n * n * n)) cut1 ∙ drop_at forged behind1 (n * n * n) forged_size
 
-  behind3 : drop n (drop (n * n) (drop (n * n * n) cells)) ≡ behind_v
-  behind3 = ap (drop n) behind2 ∙ back v behind_v n cut3 v_size
+  behind2_is : drop (n * n) (drop (n * n * n) cells) ≡ behind2
+  behind2_is = ap (drop (n * n)) (behind1_is ∙ cut2) ∙ drop_at rows behind2 (n * n) rows_size
 
-  behind4 : drop n (drop n (drop (n * n) (drop (n * n * n) cells))) ≡ behind_decisions
-  behind4 = ap (drop n) behind3 ∙ back decisions behind_decisions n cut4 decisions_size
+  behind3_is : drop n (drop (n * n) (drop (n * n * n) cells)) ≡ behind3
+  behind3_is = ap (drop n) (behind2_is ∙ cut3) ∙ drop_at v behind3 n v_size
 
   pub store_is : store n cells ≡ record { forged = forged; rows = rows; v = v; decisions = decisions }
   store_is =
-      rw (front forged behind_forged (n * n * n) cut1 forged_size, ap (take (n * n)) behind1 ∙ front rows behind_rows (n * n) cut2 rows_size, ap (take n) behind2 ∙ front v behind_v n cut3 v_size, ap (take n) behind3 ∙ front decisions behind_decisions n cut4 decisions_size) refl
+      rw (
+        ap (take (n * n * n)) cut1 ∙ take_at forged behind1 (n * n * n) forged_size,
+        ap (take (n * n)) (behind1_is ∙ cut2) ∙ take_at rows behind2 (n * n) rows_size,
+        ap (take n) (behind2_is ∙ cut3) ∙ take_at v behind3 n v_size,
+        ap (take n) (behind3_is ∙ cut4) ∙ take_at decisions behind n decisions_size,
+      ) refl
 
-  pub past_is : drop (needed n) cells ≡ rest
-  past_is =
-      let sum : needed n ≡ n * n * n + n * n + n + n + (n * n + 3 * n) = omega arith in
-      ap (λ m. drop m cells) sum
-      ∙ sym (drop-drop (n * n + 3 * n) (n * n * n + n * n + n + n) cells)
-      ∙ ap (drop (n * n + 3 * n)) (sym (drop-drop n (n * n * n + n * n + n) cells) ∙ ap (drop n) (sym (drop-drop n (n * n * n + n * n) cells) ∙ ap (drop n) (sym (drop-drop (n * n) (n * n * n) cells))) ∙ behind4)
-      ∙ back work rest (n * n + 3 * n) cut5 work_size
+  joined : cells ≡ forged ++ (rows ++ (v ++ (decisions ++ behind)))
+  joined = cut1 ∙ ap (forged ++◌) (cut2 ∙ ap (rows ++◌) (cut3 ∙ ap (v ++◌) cut4))
 
--- the same where the work cells stay together with what lies behind them
-module _ {R : Type 0} (n : ℕ) (forged rows v decisions behind : List (Option R)) {cells behind_forged behind_rows behind_v : List (Option R)}
-    (cut1 : cells ≡ forged ++ behind_forged) (cut2 : behind_forged ≡ rows ++ behind_rows) (cut3 : behind_rows ≡ v ++ behind_v) (cut4 : behind_v ≡ decisions ++ behind)
-    (forged_size : length forged ≡ n * n * n) (rows_size : length rows ≡ n * n) (v_size : length v ≡ n) (decisions_size : length decisions ≡ n) (room : n * n + 3 * n ≤ length behind) where
-  abbrev work : ℕ
-  work = n * n + 3 * n
-
-  pub opened_store : store n cells ≡ record { forged = forged; rows = rows; v = v; decisions = decisions }
-  opened_store = store_is n forged rows v decisions (take work behind) (drop work behind) cut1 cut2 cut3 cut4 (sym (take-append-drop work behind)) forged_size rows_size v_size decisions_size (length-take-le work behind room)
-
-  pub opened_past : drop (needed n) cells ≡ drop work behind
-  opened_past = past_is n forged rows v decisions (take work behind) (drop work behind) cut1 cut2 cut3 cut4 (sym (take-append-drop work behind)) forged_size rows_size v_size decisions_size (length-take-le work behind room)
-
--- what lies past the needed cells goes by what lies behind the forged ones
-pub past_front : {R : Type 0} (n : ℕ) (a b rest : List (Option R)) {cells : List (Option R)} → length a ≡ n * n * n → length b ≡ n * n * n → cells ≡ b ++ rest → drop (needed n) (a ++ rest) ≡ drop (needed n) cells
-past_front n a b rest a_size b_size cut = at a a_size ∙ sym (at b b_size) ∙ sym (ap (drop (needed n)) cut)
-  where
-    behind : ℕ
-    behind = 2 * n * n + 5 * n
-
-    at : (p : List (Option _)) → length p ≡ n * n * n → drop (needed n) (p ++ rest) ≡ drop behind rest
-    at p size =
-        let sum : needed n ≡ n * n * n + behind = omega arith in
-        ap (λ m. drop m (p ++ rest)) sum ∙ sym (drop-drop behind (n * n * n) (p ++ rest)) ∙ ap (drop behind) (drop_at p rest (n * n * n) size)
+  -- what lies past the needed cells stays when parts are written
+  pub past_stays : (forged' rows' v' decisions' : List (Option R)) → length forged' ≡ n * n * n → length rows' ≡ n * n → length v' ≡ n → length decisions' ≡ n
+      → drop (needed n) (forged' ++ (rows' ++ (v' ++ (decisions' ++ behind)))) ≡ drop (needed n) cells
+  past_stays forged' rows' v' decisions' forged_size' rows_size' v_size' decisions_size' =
+      past_parts n forged' rows' v' decisions' behind forged_size' rows_size' v_size' decisions_size'
+      ∙ sym (past_parts n forged rows v decisions behind forged_size rows_size v_size decisions_size)
+      ∙ sym (ap (drop (needed n)) joined)
 
 -- a guard that is passed, and one that is not
 passed : {A : Type 0} (test seated : Bool) (x y : A) → test ≡ true → cond seated y x ≡ cond (test && not seated) x y
@@ -98,29 +95,58 @@ module _ {R : Type 0} (k : Rules) (plain : R → List ℕ) (b : Block) (seating 
           (λ ge. beyond i ge ∙ not_passed (nat_lt i b.n) (has seating.set.0 i) (renewed k plain b seating old i) blank (grind (arith, nat_tests)))
           (cases_lt i b.n)
 
-pub decision_is : {R : Type 0} (k : Rules) (plain : R → List ℕ) (n i place : ℕ) (cells : List (Option R)) (cell : Option R) → i < n → place ≡ n * n * n + n * n + n + i → place < length cells
-    → cell ≡ get_or cells place cell → (kept_in k plain n (store n cells) i).decision ≡ shows k plain cell
-decision_is k plain n i place cells cell lt place_is in_cells e =
-    inside i n _ _ None lt (
-    seen_is k plain _ i
-    ∙ ap (shows k plain) (
-    get_or-take n (drop n (drop (n * n) (drop (n * n * n) cells))) i None lt
-    ∙ get_or-drop n (drop (n * n) (drop (n * n * n) cells)) i None
-    ∙ get_or-drop (n * n) (drop (n * n * n) cells) (n + i) None
-    ∙ get_or-drop (n * n * n) cells (n * n + (n + i)) None
-    ∙ ap (λ place. get_or cells place None) (omega arith)
-    ∙ get_or_default cells place None cell in_cells
-    ∙ sym e))
+-- a decision is read where the decisions lie
+pub decision_is : {R : Type 0} (k : Rules) (plain : R → List ℕ) (n i : ℕ) (cells decisions : List (Option R)) (cell : Option R) → i < n → (store n cells).decisions ≡ decisions → i < length decisions → cell ≡ get_or decisions i cell
+    → shows k plain cell ≡ (kept_in k plain n (store n cells) i).decision
+decision_is k plain n i cells decisions cell lt is in_cells e =
+    sym (inside i n _ _ _ lt (ap (λ cells. seen k plain cells i) is ∙ seen_is k plain decisions i ∙ ap (shows k plain) (get_or_default decisions i _ cell in_cells ∙ sym e)))
 
--- a close: what was cut, computed and emptied, put together
-pub closes : {R : Type 0} (k : Rules) (plain : R → List ℕ) (b : Block) (seating : Seating) (cells next : List (Option R)) (old mid new : Store R) → store b.n cells ≡ old → store b.n next ≡ new
-    → ((i : ℕ) → i < b.n → kept_in k plain b.n mid i ≡ renewed k plain b seating old i)
-    → ((i : ℕ) → i < b.n → kept_in k plain b.n new i ≡ cond (has seating.set.0 i) blank (kept_in k plain b.n mid i))
-    → kept_in k plain b.n (store b.n next) ≡ left k plain b seating (store b.n cells)
-closes k plain b seating cells next old mid new was is computed emptied =
-    ap (kept_in k plain b.n) is
-    ∙ left_is k plain b seating old new (λ i lt. emptied i lt ∙ ap (cond (has seating.set.0 i) blank) (computed i lt))
-    ∙ sym (ap (left k plain b seating) was)
+-- the store lies in the cells that are kept, whatever lies behind them
+module _ {R : Type 0} (n : ℕ) (kept work : List (Option R)) (size : length kept ≡ n * n * n + n * n + 2 * n) where
+  store_front : store n (kept ++ work) ≡ store n kept
+  store_front =
+      let after1 : drop (n * n * n) (kept ++ work) ≡ drop (n * n * n) kept ++ work = drop-append-le (n * n * n) kept work (omega arith) in
+      let left1 : length (drop (n * n * n) kept) ≡ n * n + 2 * n = omega (arith, length-drop (n * n * n) kept) in
+      let after2 : drop (n * n) (drop (n * n * n) (kept ++ work)) ≡ drop (n * n) (drop (n * n * n) kept) ++ work = ap (drop (n * n)) after1 ∙ drop-append-le (n * n) (drop (n * n * n) kept) work (omega arith) in
+      let left2 : length (drop (n * n) (drop (n * n * n) kept)) ≡ 2 * n = omega (arith, length-drop (n * n) (drop (n * n * n) kept)) in
+      let after3 : drop n (drop (n * n) (drop (n * n * n) (kept ++ work))) ≡ drop n (drop (n * n) (drop (n * n * n) kept)) ++ work = ap (drop n) after2 ∙ drop-append-le n (drop (n * n) (drop (n * n * n) kept)) work (omega arith) in
+      let left3 : length (drop n (drop (n * n) (drop (n * n * n) kept))) ≡ n = omega (arith, length-drop n (drop (n * n) (drop (n * n * n) kept))) in
+      rw (
+        take-append-le (n * n * n) kept work (omega arith),
+        ap (take (n * n)) after1 ∙ take-append-le (n * n) (drop (n * n * n) kept) work (omega arith),
+        ap (take n) after2 ∙ take-append-le n (drop (n * n) (drop (n * n * n) kept)) work (omega arith),
+        ap (take n) after3 ∙ take-append-le n (drop n (drop (n * n) (drop (n * n * n) kept))) work (omega arith),
+      ) refl
 
-pub past_stays : {R : Type 0} (n : ℕ) (before after rest : List (Option R)) → drop (needed n) before ≡ rest → drop (needed n) after ≡ rest → drop (needed n) after ≡ drop (needed n) before
-past_stays n before after rest was is = is ∙ sym was
+  past_front : (k : ℕ) → needed n ≡ n * n * n + n * n + 2 * n + k → drop (needed n) (kept ++ work) ≡ drop k work
+  past_front k sum = ap (λ m. drop m (kept ++ work)) sum ∙ skip (n * n * n + n * n + 2 * n) k kept work size
+
+-- a close: what was computed, and then emptied
+module _ {R : Type 0} (k : Rules) (plain : R → List ℕ) (b : Block) (seating : Seating) (work rest work' : List (Option R)) {cells kept mid new behind : List (Option R)} (cut1 : cells ≡ kept ++ behind) (cut2 : behind ≡ work ++ rest)
+    (kept_size : length kept ≡ b.n * b.n * b.n + b.n * b.n + 2 * b.n) (work_size : length work ≡ b.n * b.n + 3 * b.n) (work_size' : length work' ≡ b.n * b.n + 3 * b.n)
+    (new_size : length new ≡ b.n * b.n * b.n + b.n * b.n + 2 * b.n) (renews : Renews k plain b seating kept mid) (empties : Empties k plain b.n seating.set.0 mid new) where
+  was : store b.n cells ≡ store b.n kept
+  was = ap (store b.n) cut1 ∙ store_front b.n kept behind kept_size
+
+  pub close_forged : (store b.n (new ++ (work' ++ rest))).forged ≡ (store b.n cells).forged
+  close_forged = ap (λ (s : Store R). s.forged) (store_front b.n new (work' ++ rest) new_size) ∙ empties.forged ∙ renews.forged ∙ sym (ap (λ (s : Store R). s.forged) was)
+
+  pub close_kept : kept_in k plain b.n (store b.n (new ++ (work' ++ rest))) ≡ left k plain b seating (store b.n cells)
+  close_kept =
+      ap (kept_in k plain b.n) (store_front b.n new (work' ++ rest) new_size)
+      ∙ left_is k plain b seating (store b.n kept) (store b.n new) (λ i lt. empties.kept i lt ∙ ap (cond (has seating.set.0 i) blank) (renews.kept i lt))
+      ∙ sym (ap (left k plain b seating) was)
+
+  -- what lies behind the work cells lies past the needed ones
+  behind_work : (xs : List (Option R)) → length xs ≡ b.n * b.n + 3 * b.n → drop (b.n * b.n + 3 * b.n + 0) (xs ++ rest) ≡ rest
+  behind_work xs size = skip (b.n * b.n + 3 * b.n) 0 xs rest size
+
+  pub close_past : drop (needed b.n) (new ++ (work' ++ rest)) ≡ drop (needed b.n) cells
+  close_past =
+      let sum : needed b.n ≡ b.n * b.n * b.n + b.n * b.n + 2 * b.n + (b.n * b.n + 3 * b.n + 0) = omega arith in
+      past_front b.n new (work' ++ rest) new_size (b.n * b.n + 3 * b.n + 0) sum
+      ∙ behind_work work' work_size'
+      ∙ sym (behind_work work work_size)
+      ∙ sym (ap (drop (b.n * b.n + 3 * b.n + 0)) cut2)
+      ∙ sym (past_front b.n kept behind kept_size (b.n * b.n + 3 * b.n + 0) sum)
+      ∙ sym (ap (drop (needed b.n)) cut1)

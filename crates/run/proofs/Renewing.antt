@@ -1,9 +1,11 @@
 -- What the rounds leave in the cells is what the rules make of a controller.
-use Rattle.std.proofs.Common.{◌≡◌, ℕ, suc, ◌+◌, ◌*◌, ◌/◌, ◌<◌, cond, nat_lt, nat_eq, arith, refl, sym, ap, ◌∙◌, List, Some, None, Option, ⊎_elim, Bool, true, false, replicate}
+use Rattle.std.proofs.Common.{◌≡◌, ℕ, suc, ◌+◌, ◌*◌, ◌/◌, ◌<◌, cond, nat_lt, nat_eq, arith, refl, sym, ap, subst, ◌∙◌, List, Some, None, Option, ⊎_elim, Bool, true, false, replicate}
 use Rattle.std.proofs.lemmas.Bool.{cases_lt}
 use Rattle.std.proofs.lemmas.Bool.Decides.{nat_tests}
 use Rattle.std.proofs.Math.Path.{fun_ext}
+use Rattle.values.specs.declared.kinds.Kind.{Ghosts}
 use Rattle.values.specs.Rules.{Rules}
+use Rattle.models.specs.declared.classes.Class.{Class}
 use Rattle.values.specs.Cells.{Held, seen}
 use Rattle.protocol.specs.declared.stages.Stage.{Stage}
 use Rattle.protocol.specs.declared.stages.Stage.TheVariants.{Proposing, Collecting, Deciding, Maintaining}
@@ -11,9 +13,11 @@ use Rattle.protocol.specs.Stages.{stage_of}
 use Rattle.protocol.specs.Rounds.{Memory, sends, heard, make, proposed, maintained, decided}
 use Rattle.run.specs.declared.turns.Block.{Block}
 use Rattle.run.specs.declared.turns.Seating.{Seating}
-use Rattle.run.specs.Stores.{Store}
+use Rattle.run.specs.declared.hearing.Sent.{Sent}
+use Rattle.run.specs.Stores.{Store, store}
 use Rattle.run.specs.Views.{class_in, forged_in, kept_in}
-use Rattle.run.specs.Closing.{terms, renewed}
+use Rattle.run.specs.Hearing.{store_of, hears}
+use Rattle.run.specs.Closing.{terms, renewed, Renews}
 use Rattle.run.proofs.Filling.{seen_empty}
 use Rattle.run.proofs.Heard.{nothing_heard}
 
@@ -111,3 +115,24 @@ module _ {R : Type 0} (k : Rules) (plain : R → List ℕ) (b : Block) (seating 
         refl
         (inside i b.n _ _ None lt (shows_all decisions next (λ stage i. maintained b.n b.counts (λ j. hears_at stage i j 0)) Maintaining now copied computed i lt))
         ∙ sym (renewed_at Maintaining (sym is ∙ now) i)
+
+-- what was computed of what was sent, as the cells have it
+module _ {V R : Type 0} {kind : Ghosts V R} (b : Block) (seating : Seating) (s : Store R) (stage : Stage) (sent : Sent V R kind) (round : (sent.n ≡ b.n) × (sent.stage ≡ stage) × (sent.classes ≡ seating.classes)) (store_is : store_of sent ≡ s) where
+  heard_from : (n : ℕ) → Stage → List Class → Store R → ℕ → ℕ → ℕ → Held
+  heard_from n stage classes s = heard (class_in n classes) (λ j. sends stage (kept_in kind.rules kind.plain n s j)) (forged_in kind.rules kind.plain n s)
+
+  hears_is : hears sent ≡ hears_at kind.rules kind.plain b seating s stage
+  unfolding heard_from
+  hears_is =
+      ap (λ n. heard_from n sent.stage sent.classes (store_of sent)) round.0
+      ∙ ap (λ stage. heard_from b.n stage sent.classes (store_of sent)) round.1
+      ∙ ap (λ classes. heard_from b.n stage classes (store_of sent)) round.2
+      ∙ ap (heard_from b.n stage seating.classes) store_is
+
+  pub of_sent : (P : ℕ → (ℕ → ℕ → ℕ → Held) → Type 0) → P sent.n (hears sent) → P b.n (hears_at kind.rules kind.plain b seating s stage)
+  of_sent P computed = subst (P b.n) hears_is (subst (λ n. P n (hears sent)) round.0 computed)
+
+-- the cells that a close leaves, by the store in them
+pub renews : {R : Type 0} (k : Rules) (plain : R → List ℕ) (b : Block) (seating : Seating) (before after : List (Option R)) (rows v decisions : List (Option R)) → store b.n after ≡ record { forged = (store b.n before).forged; rows = rows; v = v; decisions = decisions }
+    → ((i : ℕ) → i < b.n → kept_in k plain b.n (record { forged = (store b.n before).forged; rows = rows; v = v; decisions = decisions }) i ≡ renewed k plain b seating (store b.n before) i) → Renews k plain b seating before after
+renews k plain b seating before after rows v decisions is kept = record { forged = ap (λ (s : Store _). s.forged) is; kept = λ i lt. ap (λ s. kept_in k plain b.n s i) is ∙ kept i lt }

@@ -20,4 +20,4 @@ module _ {V R : Type 0} {kind : Ghosts V R} (s : Sent V R kind) where
   kept_by = kept_in kind.rules kind.plain s.n store_of
 
   abbrev pub hears : (receiver sender column : ℕ) → Held
-  hears = heard (class_in s.n s.classes.now) (λ j. sends s.stage (kept_by j)) (forged_in kind.rules kind.plain s.n store_of)
+  hears = heard (class_in s.n s.classes) (λ j. sends s.stage (kept_by j)) (forged_in kind.rules kind.plain s.n store_of)

@@ -4,20 +4,15 @@ ghost use Rattle.protocol.specs.Machine.{misfits, open_refusal, seat_refusal, fo
 ghost use Rattle.run.specs.Checks.{IsOpened, IsSeated, bare, bare_seating};
 
 use crate::calls::{Opening, Place};
-use crate::places::needed;
+use crate::layout::needed;
 use crate::turns::{Block, Seating};
-use models::{Class, Model, Moved, Set};
-use protocol::Stage;
+use models::{Class, MOST_CONTROLLERS, Model, Moved, Set};
+use protocol::{MOST_ROUNDS, Stage};
 use values::{Kind, Refusal};
-
-// The largest block, and how many rounds a run has at most.
-const MOST_CONTROLLERS: usize = 16;
-
-const MOST_ROUNDS: usize = 1000;
 
 // Whether a set has a member not below n, or more than t members.
 fn misfits(n: usize, t: usize, set: Set) -> bool
-    requires { n ≤ 16 }
+    requires { n ≤ MOST_CONTROLLERS }
     ensures { result ≡ misfits n t set.0 }
 {
     u32::from(set.0) >> n > 0 || set.size() > t
@@ -85,7 +80,7 @@ pub(crate) fn check_seat<M: Model>(model: &M, block: &Block, set: Set) -> Result
         return Err(Refusal::ForbiddenMove);
     }
     // A loop: what std promises of an array made by a closure forgets what the closure holds.
-    let mut classes = [Class::Honest; 16];
+    let mut classes = [Class::Honest; MOST_CONTROLLERS];
     for controller in 0..block.n {
         classes[controller] = model.class(moved, controller);
     }

@@ -3,7 +3,7 @@ ghost use Rattle.values.specs.Rules.{means};
 ghost use Rattle.values.specs.Cells.{shows, seen};
 ghost use Rattle.protocol.specs.Rounds.{at_place, chosen, held_by, settled};
 
-use models::Counts;
+use models::{Counts, MOST_CONTROLLERS};
 use values::{Cell, Kind, Quorum, winner};
 
 /// The cell at a place, if there is one.
@@ -37,7 +37,7 @@ pub(crate) fn settled<K: Kind>(
     row: &[Cell<K::Row>],
     counts: Counts,
 ) -> K::Row
-    requires few { counts.l + counts.e < 16 }
+    requires few { counts.l + counts.e < MOST_CONTROLLERS }
     requires size { length row.now ≡ length candidates.now }
     ensures { means K.rules K.plain result ≡ settled (length candidates.now) counts K.rules.fallback (seen K.rules K.plain candidates.now) (seen K.rules K.plain row.now) }
 {

@@ -5,82 +5,67 @@ ghost use Rattle.protocol.specs.Rounds.{blank};
 ghost use Rattle.protocol.specs.Machine.{needed};
 ghost use Rattle.run.specs.Stores.{store};
 ghost use Rattle.run.specs.Views.{kept_in};
-ghost use Rattle.run.specs.Closing.{renewed, left};
+ghost use Rattle.run.specs.Closing.{left, Renews, Empties};
 
 use crate::hearing::Sent;
+use crate::layout::{kept_cells, parts, work_cells};
 use crate::rounds::{collect, decide, maintain, propose};
-use crate::store::clear;
+use crate::store::{clear, clear_decisions, put_decisions, put_rows, put_v};
 use crate::turns::{Block, Seating};
-use models::Set;
-use protocol::Stage;
+use models::{MOST_CONTROLLERS, Set};
+use protocol::{MOST_ROUNDS, Stage};
 use values::{Cell, Kind};
 
 // Every controller computes from what was sent: into work cells first, so that none reads another's new cells.
 fn renew<K: Kind>(
     block: &Block,
     seating: &Seating,
-    forged: &[Cell<K::Row>],
-    rows: &mut [Cell<K::Row>],
-    v: &mut [Cell<K::Row>],
-    decisions: &mut [Cell<K::Row>],
+    kept: &mut [Cell<K::Row>],
     work: &mut [Cell<K::Row>],
 )
-    requires forged { length forged.now ≡ block.now.n * block.now.n * block.now.n }
-    requires rows { length rows.old ≡ block.now.n * block.now.n }
-    requires v { length v.old ≡ block.now.n }
-    requires decisions { length decisions.old ≡ block.now.n }
-    requires limit { block.now.round < 1000 }
-    requires work { block.now.n * block.now.n + 3 * block.now.n ≤ length work.old }
-    ensures { (i : ℕ) → i < block.now.n
-        → kept_in K.rules K.plain block.now.n (record { forged = forged.now; rows = rows.new; v = v.new; decisions = decisions.new }) i
-        ≡ renewed K.rules K.plain block.now seating.now (record { forged = forged.now; rows = rows.old; v = v.old; decisions = decisions.old }) i }
+    requires limit { block.now.round < MOST_ROUNDS }
+    requires kept { length kept.old ≡ block.now.n * block.now.n * block.now.n + block.now.n * block.now.n + 2 * block.now.n }
+    requires work { length work.old ≡ block.now.n * block.now.n + 3 * block.now.n }
+    ensures { Renews K.rules K.plain block.now seating.now kept.old kept.new }
 {
     let n = block.n;
     let stage = Stage::of(n, block.round);
     let (next_rows, rest) = work.split_at_mut(n * n);
+    let (next, rest) = rest.split_at_mut(n);
     let (column, rest) = rest.split_at_mut(n);
-    let (candidates, rest) = rest.split_at_mut(n);
-    let (next, _) = rest.split_at_mut(n);
-    let sent = Sent::<K> {
-        n,
-        stage,
-        classes: &seating.classes,
-        forged,
-        rows,
-        v,
-        decisions,
-    };
+    let (candidates, _) = rest.split_at_mut(n);
+    let sent = Sent::<K>::over(n, stage, seating.classes, kept);
     match stage {
         Stage::Proposing => {
             propose(&sent, block.counts, column, next);
-            v.copy_from_slice(next);
-            clear(decisions);
+            put_v(kept, n, next);
+            clear_decisions(kept, n);
         }
         Stage::Collecting => {
             collect(&sent, next_rows);
-            rows.copy_from_slice(next_rows);
-            clear(decisions);
+            put_rows(kept, n, next_rows);
+            clear_decisions(kept, n);
         }
         Stage::Deciding => {
             let phase = block.round / 3;
             decide(&sent, block.counts, phase, column, candidates, next);
-            v.copy_from_slice(next);
+            put_v(kept, n, next);
             if block.round + 1 == 3 * n {
-                decisions.copy_from_slice(next);
+                put_decisions(kept, n, next);
             } else {
-                clear(decisions);
+                clear_decisions(kept, n);
             }
         }
         Stage::Maintaining => {
             maintain(&sent, block.counts, column, next);
-            decisions.copy_from_slice(next);
+            put_decisions(kept, n, next);
         }
     }
 }
 
 // Empties the row of a controller.
 fn clear_row<K: Kind>(n: usize, controller: usize, rows: &mut [Cell<K::Row>])
-    requires size { n ≤ 16 }
+    requires size { n ≤ MOST_CONTROLLERS }
     requires controller { controller < n }
     requires rows { length rows.old ≡ n * n }
     ensures { (i j : ℕ) → i < n → j < n
@@ -91,21 +76,12 @@ fn clear_row<K: Kind>(n: usize, controller: usize, rows: &mut [Cell<K::Row>])
 }
 
 // A seated controller is left with all its cells empty.
-fn empty<K: Kind>(
-    n: usize,
-    set: Set,
-    rows: &mut [Cell<K::Row>],
-    v: &mut [Cell<K::Row>],
-    decisions: &mut [Cell<K::Row>],
-)
-    requires size { n ≤ 16 }
-    requires rows { length rows.old ≡ n * n }
-    requires v { length v.old ≡ n }
-    requires decisions { length decisions.old ≡ n }
-    ensures { (i : ℕ) → i < n
-        → kept_in K.rules K.plain n (record { forged = []; rows = rows.new; v = v.new; decisions = decisions.new }) i
-        ≡ (if has set.0 i then blank else kept_in K.rules K.plain n (record { forged = []; rows = rows.old; v = v.old; decisions = decisions.old }) i) }
+fn empty<K: Kind>(n: usize, set: Set, kept: &mut [Cell<K::Row>])
+    requires size { n ≤ MOST_CONTROLLERS }
+    requires kept { length kept.old ≡ n * n * n + n * n + 2 * n }
+    ensures { Empties K.rules K.plain n set.0 kept.old kept.new }
 {
+    parts!(let (_, rows, v, decisions, _) = kept.split_at_mut(n));
     for controller in 0..n {
         if set.holds(controller) {
             v[controller] = None;
@@ -117,18 +93,15 @@ fn empty<K: Kind>(
 
 /// Closes a round: what every controller keeps then, in the cells of a run.
 pub(crate) fn close<K: Kind>(cells: &mut [Cell<K::Row>], block: &Block, seating: &Seating)
-    requires limit { block.now.round < 1000 }
+    requires limit { block.now.round < MOST_ROUNDS }
     requires roomy { needed block.now.n ≤ length cells.old }
     ensures forged { (store block.now.n cells.new).forged ≡ (store block.now.n cells.old).forged }
     ensures kept { kept_in K.rules K.plain block.now.n (store block.now.n cells.new) ≡ left K.rules K.plain block.now seating.now (store block.now.n cells.old) }
     ensures past { drop (needed block.now.n) cells.new ≡ drop (needed block.now.n) cells.old }
 {
     let n = block.n;
-    let (forged, rest) = cells.split_at_mut(n * n * n);
-    let (rows, rest) = rest.split_at_mut(n * n);
-    let (v, rest) = rest.split_at_mut(n);
-    let (decisions, rest) = rest.split_at_mut(n);
-    let (work, _) = rest.split_at_mut(n * n + 3 * n);
-    renew::<K>(block, seating, forged, rows, v, decisions, work);
-    empty::<K>(n, seating.set, rows, v, decisions);
+    let (kept, rest) = cells.split_at_mut(kept_cells(n));
+    let (work, _) = rest.split_at_mut(work_cells(n));
+    renew::<K>(block, seating, kept, work);
+    empty::<K>(n, seating.set, kept);
 }

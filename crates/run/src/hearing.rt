@@ -1,7 +1,9 @@
 ghost use Rattle.std.specs.Prelude.{◌≡◌, ◌*◌, ◌≤◌, length};
+ghost use Rattle.models.specs.declared.sets.TheConstants.{MOST_CONTROLLERS};
 
+use crate::layout::parts;
 use crate::places::{forged_place, row_place};
-use models::Class;
+use models::{Class, MOST_CONTROLLERS};
 use protocol::Stage;
 use values::{Cell, Kind};
 
@@ -10,12 +12,12 @@ use values::{Cell, Kind};
 pub struct Sent<'s, K: Kind> {
     pub n: usize,
     pub stage: Stage,
-    pub classes: &'s [Class; 16],
+    pub classes: [Class; MOST_CONTROLLERS],
     pub forged: &'s [Cell<K::Row>],
     pub rows: &'s [Cell<K::Row>],
     pub v: &'s [Cell<K::Row>],
     pub decisions: &'s [Cell<K::Row>],
-    ghost size: { n ≤ 16 },
+    ghost size: { n ≤ MOST_CONTROLLERS },
     ghost forged_size: { length forged.now ≡ n * n * n },
     ghost rows_size: { length rows.now ≡ n * n },
     ghost v_size: { length v.now ≡ n },
@@ -23,11 +25,36 @@ pub struct Sent<'s, K: Kind> {
 }
 
 impl<'s, K: Kind> Sent<'s, K> {
-    ghost use Rattle.std.specs.Prelude.{ℕ, ◌<◌, None, slice_index_or};
+    ghost use Rattle.std.specs.Prelude.{ℕ, ◌+◌, ◌<◌, None, slice_index_or};
     ghost use Rattle.values.specs.Cells.{shows, seen};
     ghost use Rattle.protocol.specs.Stages.{columns_of};
     ghost use Rattle.protocol.specs.Rounds.{at_place, sends};
-    ghost use Rattle.run.specs.Hearing.{kept_by, hears, IsWithin};
+    ghost use Rattle.run.specs.Stores.{store};
+    ghost use Rattle.run.specs.Hearing.{store_of, kept_by, hears, IsWithin};
+
+    /// What was sent in a round of so many controllers, from the cells that they kept and those that are forged.
+    pub(crate) fn over(
+        n: usize,
+        stage: Stage,
+        classes: [Class; MOST_CONTROLLERS],
+        cells: &'s [Cell<K::Row>],
+    ) -> Sent<'s, K>
+        requires size { n ≤ MOST_CONTROLLERS }
+        requires cells { n * n * n + n * n + 2 * n ≤ length cells.now }
+        ensures round { (result.n ≡ n) × (result.stage ≡ stage) × (result.classes ≡ classes) }
+        ensures store { store_of result ≡ store n cells.now }
+    {
+        parts!(let (forged, rows, v, decisions, _) = cells.split_at(n));
+        Sent {
+            n,
+            stage,
+            classes,
+            forged,
+            rows,
+            v,
+            decisions,
+        }
+    }
 
     // What an honest sender sends in a column.
     fn sends(&self, sender: usize, column: usize) -> Cell<K::Row>
@@ -96,7 +123,7 @@ impl<'s, K: Kind> Sent<'s, K> {
     pub(crate) fn hear_places(
         &self,
         receiver: usize,
-        places: &[Option<usize>; 16],
+        places: &[Option<usize>; MOST_CONTROLLERS],
         cells: &mut [Cell<K::Row>],
     )
         requires receiver { receiver < self.now.n }

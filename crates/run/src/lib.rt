@@ -7,6 +7,7 @@ mod choosing;
 mod closing;
 mod dues;
 mod hearing;
+mod layout;
 mod places;
 mod plays;
 mod rounds;
@@ -15,5 +16,6 @@ mod store;
 mod turns;
 
 pub use calls::{Answer, Call, Opening, Place};
+pub use layout::{MOST_CELLS, needed};
 pub use plays::play;
 pub use run::Run;

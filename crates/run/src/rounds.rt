@@ -6,7 +6,7 @@ ghost use Rattle.run.specs.Hearing.{hears, IsWithin};
 
 use crate::choosing::{chosen, held_by, settled};
 use crate::hearing::Sent;
-use models::Counts;
+use models::{Counts, MOST_CONTROLLERS};
 use protocol::{Stage, coordinator};
 use values::{Cell, Kind, Quorum, winner};
 
@@ -77,7 +77,7 @@ pub(crate) fn collect<K: Kind>(sent: &Sent<K>, rows: &mut [Cell<K::Row>])
 
 // The place of a column's candidate, which is the value that more than l senders hold there; a column may have none.
 fn candidate<K: Kind>(column: &[Cell<K::Row>], counts: Counts) -> Option<usize>
-    requires few { counts.l < 16 }
+    requires few { counts.l < MOST_CONTROLLERS }
     ensures place { result ≡ winning (suc counts.l) (length column.now) (seen K.rules K.plain column.now) (length column.now) }
     ensures within { IsWithin (length column.now) result }
 {
@@ -90,15 +90,15 @@ fn candidates<K: Kind>(
     receiver: usize,
     counts: Counts,
     column: &mut [Cell<K::Row>],
-) -> [Option<usize>; 16]
+) -> [Option<usize>; MOST_CONTROLLERS]
     requires receiver { receiver < sent.now.n }
     requires stage { sent.now.stage ≡ Stage.Deciding }
-    requires few { counts.l < 16 }
+    requires few { counts.l < MOST_CONTROLLERS }
     requires column { length column.old ≡ sent.now.n }
     ensures places { (k : ℕ) → k < sent.now.n → slice_index_or result k None ≡ winning (suc counts.l) sent.now.n (λ j. hears sent.now receiver j k) sent.now.n }
     ensures within { (k : ℕ) → k < sent.now.n → IsWithin sent.now.n (slice_index_or result k None) }
 {
-    let mut places = [None; 16];
+    let mut places = [None; MOST_CONTROLLERS];
     for k in 0..sent.n {
         sent.hear_senders(receiver, k, column);
         places[k] = candidate::<K>(column, counts);
@@ -117,7 +117,7 @@ pub(crate) fn decide<K: Kind>(
 )
     requires phase { phase < sent.now.n }
     requires stage { sent.now.stage ≡ Stage.Deciding }
-    requires few { counts.l + counts.e < 16 }
+    requires few { counts.l + counts.e < MOST_CONTROLLERS }
     requires column { length column.old ≡ sent.now.n }
     requires cells { length cells.old ≡ sent.now.n }
     requires next { length next.old ≡ sent.now.n }

@@ -1,4 +1,5 @@
 ghost use Rattle.std.specs.Prelude.{◌≤◌, length};
+ghost use Rattle.protocol.specs.declared.stages.TheConstants.{MOST_ROUNDS};
 ghost use Rattle.protocol.specs.Machine.{needed};
 ghost use Rattle.run.specs.Turns.{size_of, begun};
 
@@ -10,7 +11,7 @@ use crate::store::{clear_forged, decision_at, fill_opened, put_forged};
 use crate::turns::{Block, Seating, Turn};
 use models::{Model, Set};
 use protocol::{
-    decisions_agree, rounds_under_any_counts, stamped_aware_runs_algorithm_2,
+    MOST_ROUNDS, decisions_agree, rounds_under_any_counts, stamped_aware_runs_algorithm_2,
     stamped_carried_runs_algorithm_3, the_machine_obeys_its_laws, unaware_runs_algorithm_1,
 };
 use values::{Cell, Kind, Refusal};
@@ -21,7 +22,7 @@ pub struct Run<'a, K: Kind> {
     cells: &'a mut [Cell<K::Row>],
     turn: Turn,
     ghost roomy: { needed (size_of turn) ≤ length cells.now },
-    ghost limit: { begun turn ≤ 1000 },
+    ghost limit: { begun turn ≤ MOST_ROUNDS },
 }
 
 impl<'a, K: Kind> Run<'a, K> {

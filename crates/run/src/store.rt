@@ -6,7 +6,9 @@ ghost use Rattle.run.specs.Stores.{store};
 ghost use Rattle.run.specs.Views.{kept_in};
 
 use crate::calls::{Opening, Place};
-use crate::places::{decision_place, forged_place};
+use crate::layout::parts;
+use crate::places::forged_place;
+use models::MOST_CONTROLLERS;
 use values::{Cell, Kind};
 
 /// Empties cells.
@@ -19,7 +21,7 @@ pub(crate) fn clear<R: Copy>(cells: &mut [Cell<R>])
 /// Fills the cells of a block that is opened: each v is that controller's proposal, but is empty for members of the initial
 /// set, and all else is empty.
 pub(crate) fn fill_opened<K: Kind>(cells: &mut [Cell<K::Row>], opening: Opening<K::Row>)
-    requires size { opening.n ≤ 16 }
+    requires size { opening.n ≤ MOST_CONTROLLERS }
     requires roomy { needed opening.n ≤ length cells.old }
     requires proposals { length opening.proposals.now ≡ opening.n }
     ensures forged { (store opening.entry.n cells.new).forged ≡ replicate (opening.entry.n * opening.entry.n * opening.entry.n) None }
@@ -32,10 +34,7 @@ pub(crate) fn fill_opened<K: Kind>(cells: &mut [Cell<K::Row>], opening: Opening<
         initial,
         ..
     } = opening;
-    let (forged, rest) = cells.split_at_mut(n * n * n);
-    let (rows, rest) = rest.split_at_mut(n * n);
-    let (v, rest) = rest.split_at_mut(n);
-    let (decisions, _) = rest.split_at_mut(n);
+    parts!(let (forged, rows, v, decisions, _) = cells.split_at_mut(n));
     clear(forged);
     clear(rows);
     clear(decisions);
@@ -50,18 +49,18 @@ pub(crate) fn fill_opened<K: Kind>(cells: &mut [Cell<K::Row>], opening: Opening<
 
 /// Empties the forged cells.
 pub(crate) fn clear_forged<R: Copy>(cells: &mut [Cell<R>], n: usize)
-    requires size { n ≤ 16 }
+    requires size { n ≤ MOST_CONTROLLERS }
     requires roomy { needed n ≤ length cells.old }
     ensures store { store n cells.new ≡ record (store n cells.old) { forged = replicate (n * n * n) None } }
     ensures past { drop (needed n) cells.new ≡ drop (needed n) cells.old }
 {
-    let (forged, _) = cells.split_at_mut(n * n * n);
+    parts!(let (forged, _, _, _, _) = cells.split_at_mut(n));
     clear(forged);
 }
 
 /// Puts a forged cell.
 pub(crate) fn put_forged<R: Copy>(cells: &mut [Cell<R>], n: usize, place: Place, cell: Cell<R>)
-    requires size { n ≤ 16 }
+    requires size { n ≤ MOST_CONTROLLERS }
     requires roomy { needed n ≤ length cells.old }
     requires sender { place.sender < n }
     requires receiver { place.receiver < n }
@@ -69,8 +68,51 @@ pub(crate) fn put_forged<R: Copy>(cells: &mut [Cell<R>], n: usize, place: Place,
     ensures store { store n cells.new ≡ record (store n cells.old) { forged = slice_set (store n cells.old).forged ((place.sender * n + place.receiver) * n + place.column) cell } }
     ensures past { drop (needed n) cells.new ≡ drop (needed n) cells.old }
 {
-    let (forged, _) = cells.split_at_mut(n * n * n);
+    parts!(let (forged, _, _, _, _) = cells.split_at_mut(n));
     forged[forged_place(n, place.sender, place.receiver, place.column)] = cell;
+}
+
+/// Puts the rows of all controllers.
+pub(crate) fn put_rows<R: Copy>(cells: &mut [Cell<R>], n: usize, new: &[Cell<R>])
+    requires size { n ≤ MOST_CONTROLLERS }
+    requires roomy { n * n * n + n * n + 2 * n ≤ length cells.old }
+    requires new { length new.now ≡ n * n }
+    ensures { store n cells.new ≡ record (store n cells.old) { rows = new.now } }
+{
+    parts!(let (_, rows, _, _, _) = cells.split_at_mut(n));
+    rows.copy_from_slice(new);
+}
+
+/// Puts the v of all controllers.
+pub(crate) fn put_v<R: Copy>(cells: &mut [Cell<R>], n: usize, new: &[Cell<R>])
+    requires size { n ≤ MOST_CONTROLLERS }
+    requires roomy { n * n * n + n * n + 2 * n ≤ length cells.old }
+    requires new { length new.now ≡ n }
+    ensures { store n cells.new ≡ record (store n cells.old) { v = new.now } }
+{
+    parts!(let (_, _, v, _, _) = cells.split_at_mut(n));
+    v.copy_from_slice(new);
+}
+
+/// Puts the decisions of all controllers.
+pub(crate) fn put_decisions<R: Copy>(cells: &mut [Cell<R>], n: usize, new: &[Cell<R>])
+    requires size { n ≤ MOST_CONTROLLERS }
+    requires roomy { n * n * n + n * n + 2 * n ≤ length cells.old }
+    requires new { length new.now ≡ n }
+    ensures { store n cells.new ≡ record (store n cells.old) { decisions = new.now } }
+{
+    parts!(let (_, _, _, decisions, _) = cells.split_at_mut(n));
+    decisions.copy_from_slice(new);
+}
+
+/// Empties the decisions of all controllers.
+pub(crate) fn clear_decisions<R: Copy>(cells: &mut [Cell<R>], n: usize)
+    requires size { n ≤ MOST_CONTROLLERS }
+    requires roomy { n * n * n + n * n + 2 * n ≤ length cells.old }
+    ensures { store n cells.new ≡ record (store n cells.old) { decisions = replicate n None } }
+{
+    parts!(let (_, _, _, decisions, _) = cells.split_at_mut(n));
+    clear(decisions);
 }
 
 /// The decision of a controller.
@@ -79,10 +121,11 @@ pub(crate) fn decision_at<K: Kind>(
     n: usize,
     controller: usize,
 ) -> Cell<K::Row>
-    requires size { n ≤ 16 }
+    requires size { n ≤ MOST_CONTROLLERS }
     requires roomy { needed n ≤ length cells.now }
     requires controller { controller < n }
     ensures { shows K.rules K.plain result ≡ (kept_in K.rules K.plain n (store n cells.now) controller).decision }
 {
-    cells[decision_place(n, controller)]
+    parts!(let (_, _, _, decisions, _) = cells.split_at(n));
+    decisions[controller]
 }

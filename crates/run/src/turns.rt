@@ -1,6 +1,8 @@
 ghost use Rattle.std.specs.Prelude.{◌≡◌, ◌≤◌, ◌<◌, ◌+◌, suc};
+ghost use Rattle.models.specs.declared.sets.TheConstants.{MOST_CONTROLLERS};
 
-use models::{Class, Counts, Set};
+use models::{Class, Counts, MOST_CONTROLLERS, Set};
+use protocol::MOST_ROUNDS;
 
 /// A block that was opened.
 #[derive(Clone, Copy)]
@@ -13,7 +15,7 @@ pub struct Block {
     pub round: usize,
     /// The set of the last closed round, or the initial set where none is closed.
     pub last: Set,
-    ghost size: { n ≤ 16 },
+    ghost size: { n ≤ MOST_CONTROLLERS },
     ghost faults: { t < n },
     ghost resilient: { counts.b + counts.e + counts.l < n },
 }
@@ -21,7 +23,7 @@ pub struct Block {
 impl Block {
     // The block when a round is closed in which the set's members were seated.
     pub(crate) fn closed(self, set: Set) -> Block
-        requires { self.round < 1000 }
+        requires { self.round < MOST_ROUNDS }
         ensures same { (result.n ≡ self.n) × (result.t ≡ self.t) × (result.counts ≡ self.counts) }
         ensures next { (result.round ≡ suc self.round) × (result.last ≡ set) }
     {
@@ -46,7 +48,7 @@ impl Block {
 #[derive(Clone, Copy)]
 pub struct Seating {
     pub set: Set,
-    pub classes: [Class; 16],
+    pub classes: [Class; MOST_CONTROLLERS],
 }
 
 /// The turn that a run stands at.

@@ -1,39 +1,86 @@
-use Rattle.std.proofs.Common.{sym, ◌∙◌, length}
+use Rattle.std.proofs.Common.{◌≡◌, ◌*◌, ◌+◌, ◌<◌, ℕ, refl, sym, ap, subst, ◌∙◌, ◌/◌, Some, None, replicate}
+use Rattle.values.specs.Cells.{seen}
+use Rattle.protocol.specs.Rounds.{proposed, maintained, candidate, settled}
+use Rattle.protocol.specs.Stages.{coordinator_of}
+use Rattle.run.specs.Stores.{Store, store}
 use Rattle.run.proofs.Heard.{deciding_phase}
-use Rattle.run.proofs.Renewing.{proposing, collecting, deciding_last, deciding_early, maintaining}
+use Rattle.run.proofs.Renewing.{of_sent, renews, proposing, collecting, deciding_last, deciding_early, maintaining}
 use Rattle.run.proofs.closing.renew.Goals as goal
 
 pub decide-requires-clause-phase : goal.decide-requires-clause-phase
-decide-requires-clause-phase g c = deciding_phase c.args.block.now.n c.args.block.now.round (sym c.of-stage.ensures ∙ c.in-Deciding.is)
+decide-requires-clause-phase g c =
+    let round = c.args.block.now.round in
+    subst (λ n. round / 3 < n) (sym c.over-sent.ensures.round.0) (deciding_phase c.args.block.now.n round (sym c.of-stage.ensures ∙ c.in-Deciding.is))
 
 pub returns-in-Proposing : goal.returns-in-Proposing
 returns-in-Proposing g c =
-    proposing g.K.Kind.rules g.K.Kind.plain c.args.block.now c.args.seating.now (record { forged = c.args.forged.now; rows = c.args.rows.now; v = c.args.v.now; decisions = c.args.decisions.now })
-    c.of-stage.result c.of-stage.ensures
-    c.copy_from_slice.new.self c.propose.new.next c.clear.new.cells (length c.args.decisions.now) c.in-Proposing.is c.propose.ensures c.copy_from_slice.ensures.after c.clear.ensures
+    let k = g.K.Kind.rules in
+    let plain = g.K.Kind.plain in
+    let b = c.args.block.now in
+    let seating = c.args.seating.now in
+    let s = store b.n c.args.kept.now in
+    let stage = c.of-stage.result in
+    let none = replicate b.n None in
+    let of = of_sent b seating s stage c.over-sent.result c.over-sent.ensures.round c.over-sent.ensures.store in
+    let next = c.propose.new.next in
+    let computed = of (λ n h. (i : ℕ) → i < n → seen k plain next i ≡ proposed n b.counts (λ j. h i j 0)) c.propose.ensures in
+    renews k plain b seating c.args.kept.now _ s.rows next none (c.clear_decisions.ensures ∙ ap (λ (s : Store _). record s { decisions = none }) c.put_v.ensures)
+    (proposing k plain b seating s stage c.of-stage.ensures next next none b.n c.in-Proposing.is computed refl refl)
 
 pub returns-in-Collecting : goal.returns-in-Collecting
 returns-in-Collecting g c =
-    collecting g.K.Kind.rules g.K.Kind.plain c.args.block.now c.args.seating.now (record { forged = c.args.forged.now; rows = c.args.rows.now; v = c.args.v.now; decisions = c.args.decisions.now })
-    c.of-stage.result c.of-stage.ensures
-    c.copy_from_slice-in-Collecting.new.self c.collect.new.rows c.clear-in-Collecting.new.cells (length c.args.decisions.now) c.in-Collecting.is c.collect.ensures c.copy_from_slice-in-Collecting.ensures.after c.clear-in-Collecting.ensures
+    let k = g.K.Kind.rules in
+    let plain = g.K.Kind.plain in
+    let b = c.args.block.now in
+    let seating = c.args.seating.now in
+    let s = store b.n c.args.kept.now in
+    let stage = c.of-stage.result in
+    let none = replicate b.n None in
+    let of = of_sent b seating s stage c.over-sent.result c.over-sent.ensures.round c.over-sent.ensures.store in
+    let next = c.collect.new.rows in
+    let computed = of (λ n h. (i j : ℕ) → i < n → j < n → seen k plain next (i * n + j) ≡ h i j 0) c.collect.ensures in
+    renews k plain b seating c.args.kept.now _ next s.v none (c.clear_decisions-in-Collecting.ensures ∙ ap (λ (s : Store _). record s { decisions = none }) c.put_rows.ensures)
+    (collecting k plain b seating s stage c.of-stage.ensures next next none b.n c.in-Collecting.is computed refl refl)
 
 pub returns-then-block-n : goal.returns-then-block-n
 returns-then-block-n g c =
-    deciding_last g.K.Kind.rules g.K.Kind.plain c.args.block.now c.args.seating.now (record { forged = c.args.forged.now; rows = c.args.rows.now; v = c.args.v.now; decisions = c.args.decisions.now })
-    c.of-stage.result c.of-stage.ensures
-    c.copy_from_slice-in-Deciding.new.self c.decide.new.next c.copy_from_slice-then-block-n.new.self c.in-Deciding.is c.decide.ensures c.copy_from_slice-in-Deciding.ensures.after
-    c.if-block-n.true c.copy_from_slice-then-block-n.ensures.after
+    let k = g.K.Kind.rules in
+    let plain = g.K.Kind.plain in
+    let b = c.args.block.now in
+    let seating = c.args.seating.now in
+    let s = store b.n c.args.kept.now in
+    let stage = c.of-stage.result in
+    let of = of_sent b seating s stage c.over-sent.result c.over-sent.ensures.round c.over-sent.ensures.store in
+    let next = c.decide.new.next in
+    let computed = of (λ n h. (i : ℕ) → i < n → seen k plain next i ≡ Some (settled n b.counts k.fallback (candidate n b.counts (h i)) (h i (coordinator_of (b.round / 3))))) c.decide.ensures in
+    renews k plain b seating c.args.kept.now _ s.rows next next (c.put_decisions.ensures ∙ ap (λ (s : Store _). record s { decisions = next }) c.put_v-in-Deciding.ensures)
+    (deciding_last k plain b seating s stage c.of-stage.ensures next next next c.in-Deciding.is computed refl c.if-block-n.true refl)
 
 pub returns-else-block-n : goal.returns-else-block-n
 returns-else-block-n g c =
-    deciding_early g.K.Kind.rules g.K.Kind.plain c.args.block.now c.args.seating.now (record { forged = c.args.forged.now; rows = c.args.rows.now; v = c.args.v.now; decisions = c.args.decisions.now })
-    c.of-stage.result c.of-stage.ensures
-    c.copy_from_slice-in-Deciding.new.self c.decide.new.next c.clear-else-block-n.new.cells c.in-Deciding.is c.decide.ensures c.copy_from_slice-in-Deciding.ensures.after
-    (length c.args.decisions.now) c.if-block-n.false c.clear-else-block-n.ensures
+    let k = g.K.Kind.rules in
+    let plain = g.K.Kind.plain in
+    let b = c.args.block.now in
+    let seating = c.args.seating.now in
+    let s = store b.n c.args.kept.now in
+    let stage = c.of-stage.result in
+    let none = replicate b.n None in
+    let of = of_sent b seating s stage c.over-sent.result c.over-sent.ensures.round c.over-sent.ensures.store in
+    let next = c.decide.new.next in
+    let computed = of (λ n h. (i : ℕ) → i < n → seen k plain next i ≡ Some (settled n b.counts k.fallback (candidate n b.counts (h i)) (h i (coordinator_of (b.round / 3))))) c.decide.ensures in
+    renews k plain b seating c.args.kept.now _ s.rows next none (c.clear_decisions-else-block-n.ensures ∙ ap (λ (s : Store _). record s { decisions = none }) c.put_v-in-Deciding.ensures)
+    (deciding_early k plain b seating s stage c.of-stage.ensures next next none c.in-Deciding.is computed refl b.n c.if-block-n.false refl)
 
 pub returns-in-Maintaining : goal.returns-in-Maintaining
 returns-in-Maintaining g c =
-    maintaining g.K.Kind.rules g.K.Kind.plain c.args.block.now c.args.seating.now (record { forged = c.args.forged.now; rows = c.args.rows.now; v = c.args.v.now; decisions = c.args.decisions.now })
-    c.of-stage.result c.of-stage.ensures
-    c.copy_from_slice-in-Maintaining.new.self c.maintain.new.next c.in-Maintaining.is c.maintain.ensures c.copy_from_slice-in-Maintaining.ensures.after
+    let k = g.K.Kind.rules in
+    let plain = g.K.Kind.plain in
+    let b = c.args.block.now in
+    let seating = c.args.seating.now in
+    let s = store b.n c.args.kept.now in
+    let stage = c.of-stage.result in
+    let of = of_sent b seating s stage c.over-sent.result c.over-sent.ensures.round c.over-sent.ensures.store in
+    let next = c.maintain.new.next in
+    let computed = of (λ n h. (i : ℕ) → i < n → seen k plain next i ≡ maintained n b.counts (λ j. h i j 0)) c.maintain.ensures in
+    renews k plain b seating c.args.kept.now _ s.rows s.v next c.put_decisions-in-Maintaining.ensures
+    (maintaining k plain b seating s stage c.of-stage.ensures next next c.in-Maintaining.is computed refl)

@@ -4,7 +4,7 @@ use Rattle.values.specs.Cells.{Held, shows}
 use Rattle.protocol.specs.Machine.{started}
 use Rattle.run.proofs.Filling.{fill_more}
 use Rattle.run.proofs.Opened.{member_started, other_started, opens}
-use Rattle.run.proofs.Parts.{opened_store, opened_past, past_stays}
+use Rattle.run.proofs.Parts.{store_is, past_stays}
 use Rattle.run.proofs.store.fill_opened.Goals as goal
 use Rattle.run.proofs.store.fill_opened.Goals.{then-holds, else-holds}
 
@@ -26,18 +26,16 @@ loop-controller-preserved g c =
 pub returns-clause-kept : goal.returns-clause-kept
 returns-clause-kept g c =
     let n = c.args.opening.n in
-    let is = opened_store n c.clear.new.cells c.clear-2.new.cells c.loop-controller.v c.clear-3.new.cells c.split_at_mut-decisions.result.1.now refl refl refl refl (omega arith) (omega arith) (omega arith) (omega arith) (omega arith) in
+    let is = store_is n c.clear.new.cells c.clear-2.new.cells c.loop-controller.v c.clear-3.new.cells c.split_at_mut-decisions.result.1.now refl refl refl refl (omega arith) (omega arith) (omega arith) (omega arith) in
     opens g.K.Kind.rules g.K.Kind.plain c.args.opening.proposals.now n c.args.opening.initial.0 _
     (record { forged = c.clear.new.cells; rows = c.clear-2.new.cells; v = c.loop-controller.v; decisions = c.clear-3.new.cells }) _ _ is c.requires.proposals
     (λ i lt. c.loop-controller.invariant i (omega arith)) c.clear-2.ensures c.clear-3.ensures
 
 pub returns-clause-past : goal.returns-clause-past
 returns-clause-past g c =
-    let n = c.args.opening.n in
     let cut1 = c.split_at_mut-forged in
     let cut2 = c.split_at_mut-rows in
     let cut3 = c.split_at_mut-v in
     let cut4 = c.split_at_mut-decisions in
-    let is = opened_past n c.clear.new.cells c.clear-2.new.cells c.loop-controller.v c.clear-3.new.cells cut4.result.1.now refl refl refl refl (omega arith) (omega arith) (omega arith) (omega arith) (omega arith) in
-    let was = opened_past n cut1.result.0.now cut2.result.0.now cut3.result.0.now cut4.result.0.now cut4.result.1.now cut1.ensures.value cut2.ensures.value cut3.ensures.value cut4.ensures.value cut1.ensures.front_len cut2.ensures.front_len cut3.ensures.front_len cut4.ensures.front_len (omega arith) in
-    past_stays n c.args.cells.now _ _ was is
+    past_stays c.args.opening.n cut1.result.0.now cut2.result.0.now cut3.result.0.now cut4.result.0.now cut4.result.1.now cut1.ensures.value cut2.ensures.value cut3.ensures.value cut4.ensures.value cut1.ensures.front_len cut2.ensures.front_len cut3.ensures.front_len cut4.ensures.front_len
+    c.clear.new.cells c.clear-2.new.cells c.loop-controller.v c.clear-3.new.cells (omega arith) (omega arith) (omega arith) (omega arith)
