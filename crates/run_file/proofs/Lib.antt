@@ -1,5 +1,6 @@
 mod Lining
 mod Voting
+mod Opening
 mod Listed
 mod Outcomes
 mod Shortness

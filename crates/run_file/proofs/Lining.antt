@@ -1,12 +1,12 @@
 -- Forgery lines that are checked: those of a round stand before those of later ones.
-use Rattle.std.proofs.Common.{◌≡◌, ℕ, suc, ◌<◌, arith, refl, subst, false, eqb, List, [], ◌∷◌, Some, None, Option, inl, inr}
+use Rattle.std.proofs.Common.{◌≡◌, ℕ, suc, ◌<◌, arith, refl, sym, subst, false, eqb, List, [], ◌∷◌, Some, None, Option}
 use Rattle.std.proofs.lemmas.Bool.Decides.{nat_tests}
 use Rattle.values.specs.declared.refusals.Refusal.{Refusal}
 use Rattle.values.specs.Rules.{Rules}
 use Rattle.protocol.specs.Machine.{◌then◌}
 use Rattle.run_file.specs.Lines.{Line, faulty, line_refusal, lines_refusal}
 use Rattle.run_file.specs.Votes.{lines_of, rounds_from}
-use Rattle.run_file.specs.InCode.{Checked, NotNext}
+use Rattle.run_file.specs.InCode.{Checked, AreLater}
 
 -- neither of two checks refuses
 pub both_none : (a b : Option Refusal) → (a then b) ≡ None → (a ≡ None) × (b ≡ None)
@@ -41,21 +41,16 @@ module _ (k : Rules) where
       let other : eqb x.round r ≡ false = let f = not_lower rounds last x (first_checked rounds last x xs e) in grind (arith, nat_tests) in
       rw other (none_later r rounds x.round xs (let f = not_lower rounds last x (first_checked rounds last x xs e) in grind (arith, nat_tests)) (rest_checked rounds last x xs e))
 
-  -- once the next line is not of this round, all of this round are forged
-  pub all_forged : (r : ℕ) (xs : List Line) → Checked k r xs → NotNext r xs → lines_of r xs ≡ []
-  all_forged r xs checked (inl none) = rw none refl
-  all_forged r xs checked (inr m) =
-      let first : lines_refusal k checked.0 r (m.0 ∷ m.1) ≡ None = subst (λ ys. lines_refusal k checked.0 r ys ≡ None) m.2 checked.1 in
-      let later : r < m.0.round = higher r checked.0 m.0 (first_checked checked.0 r m.0 m.1 first) m.3 in
-      let other = m.3 in
-      rw (m.2, other) (none_later r checked.0 m.0.round m.1 later (rest_checked checked.0 r m.0 m.1 first))
-
-  pub checked_next : (r : ℕ) (xs : List Line) → Checked k r xs → NotNext r xs → Checked k (suc r) xs
-  checked_next r xs checked (inl none) = (checked.0, rw none refl)
-  checked_next r xs checked (inr m) =
-      let first : lines_refusal k checked.0 r (m.0 ∷ m.1) ≡ None = subst (λ ys. lines_refusal k checked.0 r ys ≡ None) m.2 checked.1 in
-      let ok = first_checked checked.0 r m.0 m.1 first in
-      (checked.0, rw m.2 (either_none (line_refusal k checked.0 (suc r) m.0) (lines_refusal k checked.0 m.0.round m.1) (later_still checked.0 r m.0 ok (higher r checked.0 m.0 ok m.3)) (rest_checked checked.0 r m.0 m.1 first)))
+  -- where the next line is not of this round none is, and all stand after a line of the next round too
+  pub all_later : (rounds r : ℕ) (all xs : List Line) (x : Line) → all ≡ x ∷ xs → Checked k rounds r all → eqb x.round r ≡ false → AreLater k rounds r all
+  all_later rounds r all xs x is checked other =
+      let first : lines_refusal k rounds r (x ∷ xs) ≡ None = subst (λ ys. lines_refusal k rounds r ys ≡ None) is checked in
+      let ok = first_checked rounds r x xs first in
+      let later : r < x.round = higher r rounds x ok other in
+      let rest = rest_checked rounds r x xs first in
+      let none : lines_of r (x ∷ xs) ≡ [] = rw other (none_later r rounds x.round xs later rest) in
+      let behind : lines_refusal k rounds (suc r) (x ∷ xs) ≡ None = either_none (line_refusal k rounds (suc r) x) (lines_refusal k rounds x.round xs) (later_still rounds r x ok later) rest in
+      subst (AreLater k rounds r) (sym is) (none, behind)
 
 -- a line of an earlier round is none of those that come
 pub round_past : (r : ℕ) (sets : List ℕ) (x : Line) (xs : List Line) → x.round < r → rounds_from r sets (x ∷ xs) ≡ rounds_from r sets xs

@@ -17,12 +17,12 @@ use Rattle.run_file.specs.InCode.{IsParted, Checked, sets_in, lines_in, opens}
 use Rattle.run_file.proofs.Lining.{both_none}
 
 module _ (k : Rules) (h : Header) (bytes : List ℕ) (p : Parts) (sound : file_refusal k h bytes ≡ None) (parted : IsParted k.width h bytes p) where
-  pub lines_checked : Checked k 0 (lines_in p.lines)
+  pub lines_checked : Checked k h.rounds 0 (lines_in p.lines)
   lines_checked =
       let lines = lines_refusal k h.rounds 0 (map line (forgery_lines k.width h bytes)) in
       let values = proposals_refusal k (proposals k.width h bytes) in
       let rest = (both_none (Layout when not (laid_out k.width h bytes)) (values then lines) sound).1 in
-      (h.rounds, ap (λ xs. lines_refusal k h.rounds 0 (map line xs)) parted.lines_are ∙ (both_none values lines rest).1)
+      ap (λ xs. lines_refusal k h.rounds 0 (map line xs)) parted.lines_are ∙ (both_none values lines rest).1
 
   same_open : opens h p ≡ record { call = open_of k h bytes; round = None }
   same_open = rw (parted.proposals_are, parted.initial_is) refl

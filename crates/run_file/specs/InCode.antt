@@ -1,9 +1,10 @@
 -- What lies in code, as the format has it, and what private functions promise. Assumes nothing.
-use Rattle.std.specs.Prelude.{◌≡◌, ◌⊎◌, ℕ, ◌+◌, ◌^◌, ◌<◌, ◌≤◌, true, List, [], ◌∷◌, ◌++◌, map, length, take, codes, Some, None, Option, Result, Ok, Err, MatchResult, ⊤, ◌==◌, false}
+use Rattle.std.specs.Prelude.{◌≡◌, ℕ, suc, ◌+◌, ◌^◌, ◌<◌, ◌≤◌, true, List, [], ◌∷◌, ◌++◌, map, length, take, codes, Some, None, Option, Result, Ok, Err, MatchResult, ⊤}
 use Rattle.values.specs.declared.kinds.Kind.{Ghosts}
 use Rattle.values.specs.declared.refusals.Refusal.{Refusal}
 use Rattle.values.specs.Refusals.{number_of}
 use Rattle.values.specs.Rules.{Rules, means, words, text}
+use Rattle.values.specs.Cells.{shows}
 use Rattle.values.specs.declared.buffers.Buffer.{Buffer}
 use Rattle.values.specs.Added.{Puts}
 use Rattle.models.specs.Laws.{Meaning}
@@ -16,17 +17,26 @@ use Rattle.run_file.specs.declared.pieces.Pieces.{Pieces}
 use Rattle.run_file.specs.declared.lines.Line.{Line}
 use Rattle.run_file.specs.declared.stops.Stop.{Stop}
 use Rattle.run_file.specs.Files.{word, pieces, laid_out, proposals, initial_set, round_sets, forgery_lines}
-use Rattle.run_file.specs.Lines.{line, lines_refusal}
-use Rattle.run_file.specs.Lines as lines
+use Rattle.run_file.specs.Lines.{line, lines_refusal, cell_of}
+use Rattle.run_file.specs.Lines as format
 use Rattle.run_file.specs.Texts.{refused_line}
 use Rattle.run_file.specs.Listings.{setting_of, outcome, listing, least_room}
-use Rattle.run_file.specs.Votes.{Asked, run_through}
+use Rattle.run_file.specs.Votes.{Asked, lines_of, rounds_from, run_through}
 
 abbrev pub pieces_of : Pieces → List (List ℕ)
 pieces_of p = pieces p.width p.count p.bytes.now
 
-abbrev pub line_of : Line → lines.Line
-line_of x = record { round = x.round; sender = x.sender; receiver = x.receiver; column = x.column; tag = x.tag; value = x.value.now }
+-- it is refused exactly if there is a refusal, and with that one
+abbrev pub TellsWhy : {A : Type 0} → Option Refusal → Result A Refusal → Type 0
+TellsWhy refusal result = MatchResult result (λ _. refusal ≡ None) (λ why. refusal ≡ Some why)
+
+-- a line in code is this line of the format
+pub record IsLine {V R : Type 0} (k : Rules) (plain : R → List ℕ) (x : Line V R) (is : format.Line) : Type 0 where
+  pub round : x.round ≡ is.round
+  pub sender : x.place.sender ≡ is.sender
+  pub receiver : x.place.receiver ≡ is.receiver
+  pub column : x.place.column ≡ is.column
+  pub cell : shows k plain x.cell ≡ cell_of is
 
 -- what a call answered, with the round that it belongs to where it was refused
 abbrev pub stop_at : Option ℕ → Result ⊤ Refusal → Result ⊤ Stop
@@ -34,7 +44,7 @@ stop_at round (Ok x) = Ok x
 stop_at round (Err why) = Err (record { refusal = why; round = round })
 
 -- the forgery lines that pieces hold
-abbrev pub lines_in : Pieces → List lines.Line
+abbrev pub lines_in : Pieces → List format.Line
 lines_in p = map line (pieces_of p)
 
 -- the sets that pieces hold
@@ -64,13 +74,33 @@ HasRows k plain p rows = p.proposals.count ≤ 16 → map (means k plain) (take 
 abbrev pub opens : Header → Parts → Asked
 opens h p = record { call = Open h.n h.t (map words (pieces_of p.proposals)) p.initial.0; round = None }
 
--- none of the lines is refused after a line of this round
-abbrev pub Checked : Rules → (round : ℕ) → List lines.Line → Type 0
-Checked k round xs = (rounds : ℕ) × (lines_refusal k rounds round xs ≡ None)
+-- all calls that a header and the parts of its file ask for
+abbrev pub calls_in : Header → Parts → List Asked
+calls_in h p = opens h p ∷ rounds_from 0 (sets_in p.sets) (lines_in p.lines)
 
--- the first line of those is not of this round, or there is none
-abbrev pub NotNext : (round : ℕ) → List lines.Line → Type 0
-NotNext round xs = (xs ≡ []) ⊎ ((x : lines.Line) × (rest : List lines.Line) × (xs ≡ x ∷ rest) × ((x.round == round) ≡ false))
+-- none of the lines of a file with so many rounds is refused after a line of this round
+abbrev pub Checked : Rules → (rounds round : ℕ) → List format.Line → Type 0
+Checked k rounds round xs = lines_refusal k rounds round xs ≡ None
+
+-- none of the lines is of this round: they are of later ones
+abbrev pub AreLater : Rules → (rounds round : ℕ) → List format.Line → Type 0
+AreLater k rounds round xs = (lines_of round xs ≡ []) × Checked k rounds (suc round) xs
+
+-- the first of some lines, which is of this round, and those behind it
+pub record IsNext {V R : Type 0} (k : Rules) (plain : R → List ℕ) (rounds round : ℕ) (lines : Pieces) (x : Line V R) (rest : Pieces) : Type 0 where
+  pub is : format.Line
+  pub line : IsLine k plain x is
+  pub first : lines_in lines ≡ is ∷ lines_in rest
+  pub of_round : is.round ≡ round
+  pub checked : Checked k rounds round (lines_in rest)
+  pub width : rest.width ≡ lines.width
+  pub fewer : rest.count < lines.count
+
+-- what is left of some lines behind those of a round: the later rounds ask for the same with them as with all
+pub record Leaves (k : Rules) (rounds round : ℕ) (lines rest : Pieces) : Type 0 where
+  pub checked : Checked k rounds (suc round) (lines_in rest)
+  pub width : rest.width ≡ lines.width
+  pub same : (sets : List ℕ) → rounds_from (suc round) sets (lines_in lines) ≡ rounds_from (suc round) sets (lines_in rest)
 
 module _ {V R : Type 0} {kind : Ghosts V R} where
   -- calls that are performed, whatever comes behind them: they leave the state that the run has now; or one of them is refused
@@ -79,6 +109,14 @@ module _ {V R : Type 0} {kind : Ghosts V R} where
 
   abbrev pub Stops : Meaning → List Asked → Run V R kind → Stop → Type 0
   Stops m calls before stop = (more : List Asked) → run_through (setting before) m (state before) (calls ++ more) ≡ Err stop
+
+  -- they are all performed, or one of them is refused
+  abbrev pub RunsThrough : {A : Type 0} → Meaning → List Asked → (before after : Run V R kind) → Result A Stop → Type 0
+  RunsThrough m calls before after result = MatchResult result (λ _. GoesOn m calls before after) (λ stop. Stops m calls before stop)
+
+  -- the same of all calls that there are, from this state on
+  abbrev pub RunsToEnd : Meaning → State → List Asked → (before after : Run V R kind) → Result ⊤ Stop → Type 0
+  RunsToEnd m s calls before after result = MatchResult result (λ _. run_through (setting before) m s calls ≡ Ok (state after)) (λ stop. run_through (setting before) m s calls ≡ Err stop)
 
 -- no value of a kind takes more bytes of text than this
 abbrev pub Fits : Rules → (most : ℕ) → Type 0

@@ -1,9 +1,9 @@
 ghost use Rattle.std.specs.Prelude.{◌≡◌, ◌≤◌, ◌<◌, ◌+◌, map, take, None, Some, MatchResult};
 ghost use Rattle.values.specs.Rules.{means, words};
 ghost use Rattle.run_file.specs.Files.{proposals_refusal};
-ghost use Rattle.run_file.specs.Lines.{line, lines_refusal};
+ghost use Rattle.run_file.specs.Lines.{lines_refusal};
 ghost use Rattle.run_file.specs.Listings.{file_refusal};
-ghost use Rattle.run_file.specs.InCode.{pieces_of, IsParted, HasRows};
+ghost use Rattle.run_file.specs.InCode.{pieces_of, lines_in, TellsWhy, IsParted, HasRows};
 
 use crate::headers::Header;
 use crate::lines::Line;
@@ -37,18 +37,15 @@ fn read_proposals<K: Kind>(
     Ok(())
 }
 
-// Why the forgery lines are refused, if they are.
+// Reads all forgery lines of a file with so many rounds, or tells why they are refused.
 fn check_lines<K: Kind>(lines: Pieces, rounds: u16) -> Result<(), Refusal>
     requires { 6 ≤ lines.width }
-    ensures { MatchResult result (λ _. lines_refusal K.rules rounds 0 (map line (pieces_of lines.entry)) ≡ None)
-        (λ why. lines_refusal K.rules rounds 0 (map line (pieces_of lines.entry)) ≡ Some why) }
+    ensures { TellsWhy (lines_refusal K.rules rounds 0 (lines_in lines.entry)) result }
 {
     let mut last = 0;
     let mut rest = lines;
     while let Some((bytes, after)) = rest.split_first() {
-        let line = Line::over(bytes);
-        line.check::<K>(rounds, last)?;
-        last = line.round;
+        last = Line::<K>::read(bytes, rounds, last)?.round;
         rest = after;
     }
     Ok(())

@@ -1,23 +1,22 @@
-use Rattle.std.proofs.Common.{rules, ◌≡◌, ◌<◌, ◌∙◌, sym, ap, subst, Err, ◌∷◌, drop}
+use Rattle.std.proofs.Common.{rules, ◌≡◌, ◌<◌, ◌∙◌, sym, ap, subst, Err, drop}
 use Rattle.protocol.specs.Machine.{Idle, needed}
 use Rattle.run.specs.Turns.{size_of}
 use Rattle.run.specs.Runs.{setting}
 use Rattle.run.specs.Promises.{block_size}
 use Rattle.run.proofs.Sizes.{size_is}
 use Rattle.run_file.specs.Votes.{rounds_from, run_through}
-use Rattle.run_file.specs.Listings.{stop}
-use Rattle.run_file.specs.InCode.{opens, sets_in, lines_in}
+use Rattle.run_file.specs.InCode.{calls_in, sets_in, lines_in}
 use Rattle.run_file.proofs.Voting.{past_block}
 use Rattle.run_file.proofs.votes.perform.Goals as goal
 
 pub returns-in_err-open_block-clause-performed : goal.returns-in_err-open_block-clause-performed
 returns-in_err-open_block-clause-performed g c =
     let p = c.args.parts.now in
-    let why = c.in_err-open_block.field-0.0 in
-    let calls = opens c.args.header.now p ∷ rounds_from 0 (sets_in p.sets) (lines_in p.lines) in
-    let stops : run_through (setting c.args.run.now) (g.M.Model.meaning c.args.model.now) Idle calls ≡ Err (stop why) =
-    subst (λ s. run_through (setting c.args.run.now) (g.M.Model.meaning c.args.model.now) s calls ≡ Err (stop why)) c.requires.idle (c.in_err-open_block.ensures.opened (rounds_from 0 (sets_in p.sets) (lines_in p.lines))) in
-    let gone : c.from_residual.result ≡ Err (stop why) = search rules in
+    let m = g.M.Model.meaning c.args.model.now in
+    let stop = c.in_err-open_block.field-0.0 in
+    let stops : run_through (setting c.args.run.now) m Idle (calls_in c.args.header.now p) ≡ Err stop =
+    subst (λ s. run_through (setting c.args.run.now) m s (calls_in c.args.header.now p) ≡ Err stop) c.requires.idle (c.in_err-open_block.ensures.opened (rounds_from 0 (sets_in p.sets) (lines_in p.lines))) in
+    let gone : c.from_residual.result ≡ Err stop = search rules in
     rw gone stops
 
 pub returns-clause-used : goal.returns-clause-used
