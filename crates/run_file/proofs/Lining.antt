@@ -6,7 +6,7 @@ use Rattle.values.specs.Rules.{Rules}
 use Rattle.protocol.specs.Machine.{◌then◌}
 use Rattle.run_file.specs.Lines.{Line, faulty, line_refusal, lines_refusal}
 use Rattle.run_file.specs.Votes.{lines_of, rounds_from}
-use Rattle.run_file.specs.InCode.{Checked, AreLater}
+use Rattle.run_file.specs.InCode.{Checked}
 
 -- neither of two checks refuses
 pub both_none : (a b : Option Refusal) → (a then b) ≡ None → (a ≡ None) × (b ≡ None)
@@ -42,7 +42,7 @@ module _ (k : Rules) where
       rw other (none_later r rounds x.round xs (let f = not_lower rounds last x (first_checked rounds last x xs e) in grind (arith, nat_tests)) (rest_checked rounds last x xs e))
 
   -- where the next line is not of this round none is, and all stand after a line of the next round too
-  pub all_later : (rounds r : ℕ) (all xs : List Line) (x : Line) → all ≡ x ∷ xs → Checked k rounds r all → eqb x.round r ≡ false → AreLater k rounds r all
+  pub all_later : (rounds r : ℕ) (all xs : List Line) (x : Line) → all ≡ x ∷ xs → Checked k rounds r all → eqb x.round r ≡ false → (lines_of r all ≡ []) × Checked k rounds (suc r) all
   all_later rounds r all xs x is checked other =
       let first : lines_refusal k rounds r (x ∷ xs) ≡ None = subst (λ ys. lines_refusal k rounds r ys ≡ None) is checked in
       let ok = first_checked rounds r x xs first in
@@ -50,7 +50,7 @@ module _ (k : Rules) where
       let rest = rest_checked rounds r x xs first in
       let none : lines_of r (x ∷ xs) ≡ [] = rw other (none_later r rounds x.round xs later rest) in
       let behind : lines_refusal k rounds (suc r) (x ∷ xs) ≡ None = either_none (line_refusal k rounds (suc r) x) (lines_refusal k rounds x.round xs) (later_still rounds r x ok later) rest in
-      subst (AreLater k rounds r) (sym is) (none, behind)
+      subst (λ ys. (lines_of r ys ≡ []) × Checked k rounds (suc r) ys) (sym is) (none, behind)
 
 -- a line of an earlier round is none of those that come
 pub round_past : (r : ℕ) (sets : List ℕ) (x : Line) (xs : List Line) → x.round < r → rounds_from r sets (x ∷ xs) ≡ rounds_from r sets xs

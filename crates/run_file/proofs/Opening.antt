@@ -51,7 +51,7 @@ module _ (x : Setting) (m : Meaning) (n t : ℕ) where
 module _ {V R : Type 0} {kind : Ghosts V R} (m : Meaning) (h : Header) (p : Parts) (a b : Run V R kind) (answer : Result ⊤ Refusal) where
   -- the open that is performed does what the one that the file asks for does
   pub stepped : (n t some : ℕ) (rows : List R) → Performs m (Open n t (map (means kind.rules kind.plain) (take some rows)) p.initial.0) (said_done kind.rules kind.plain answer) a b
-      → state a ≡ Idle → HasRows kind.rules kind.plain p rows → p.proposals.count ≡ h.n → n ≡ h.n → t ≡ h.t → (h.n ≤ 16 → some ≡ h.n)
+      → state a ≡ Idle → HasRows kind.rules kind.plain p.proposals rows → p.proposals.count ≡ h.n → n ≡ h.n → t ≡ h.t → (h.n ≤ 16 → some ≡ h.n)
       → (state b, said_done kind.rules kind.plain answer) ≡ step (setting a) m Idle (opens h p).call
   stepped n t some rows performs idle has_rows count n_is t_is enough =
       let proposals = map (means kind.rules kind.plain) (take some rows) in

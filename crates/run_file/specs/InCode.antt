@@ -1,5 +1,5 @@
 -- What lies in code, as the format has it, and what private functions promise. Assumes nothing.
-use Rattle.std.specs.Prelude.{◌≡◌, ℕ, suc, ◌+◌, ◌^◌, ◌<◌, ◌≤◌, true, List, [], ◌∷◌, ◌++◌, map, length, take, codes, Some, None, Option, Result, Ok, Err, MatchResult, ⊤}
+use Rattle.std.specs.Prelude.{◌≡◌, ℕ, suc, ◌+◌, ◌^◌, ◌<◌, ◌≤◌, true, List, [], ◌∷◌, ◌++◌, map, length, take, drop, codes, Some, None, Option, Result, Ok, Err, MatchResult, ⊤}
 use Rattle.values.specs.declared.kinds.Kind.{Ghosts}
 use Rattle.values.specs.declared.refusals.Refusal.{Refusal}
 use Rattle.values.specs.Refusals.{number_of}
@@ -8,9 +8,10 @@ use Rattle.values.specs.Cells.{shows}
 use Rattle.values.specs.declared.buffers.Buffer.{Buffer}
 use Rattle.values.specs.Added.{Puts}
 use Rattle.models.specs.Laws.{Meaning}
-use Rattle.protocol.specs.Machine.{State, Open, Decision, Answer, Done, Decided, Refused, step}
+use Rattle.protocol.specs.Machine.{Setting, State, Idle, Open, Decision, Answer, Done, Decided, Refused, needed, step}
 use Rattle.run.specs.declared.run.Run.{Run}
 use Rattle.run.specs.Runs.{setting, state}
+use Rattle.run.specs.Promises.{block_size}
 use Rattle.run_file.specs.declared.headers.Header.{Header}
 use Rattle.run_file.specs.declared.parts.Parts.{Parts}
 use Rattle.run_file.specs.declared.pieces.Pieces.{Pieces}
@@ -20,11 +21,18 @@ use Rattle.run_file.specs.Files.{word, pieces, laid_out, proposals, initial_set,
 use Rattle.run_file.specs.Lines.{line, lines_refusal, cell_of}
 use Rattle.run_file.specs.Lines as format
 use Rattle.run_file.specs.Texts.{refused_line}
-use Rattle.run_file.specs.Listings.{setting_of, outcome, listing, least_room}
+use Rattle.run_file.specs.Listings.{setting_of, file_refusal, outcome, listing, least_room}
 use Rattle.run_file.specs.Votes.{Asked, lines_of, rounds_from, run_through}
 
 abbrev pub pieces_of : Pieces → List (List ℕ)
 pieces_of p = pieces p.width p.count p.bytes.now
+
+-- the first of some pieces, and those behind it
+pub record IsFirst (all : Pieces) (first : List ℕ) (rest : Pieces) : Type 0 where
+  pub pieces : pieces_of all ≡ first ∷ pieces_of rest
+  pub bytes : length first ≡ all.width
+  pub width : rest.width ≡ all.width
+  pub count : all.count ≡ rest.count + 1
 
 -- it is refused exactly if there is a refusal, and with that one
 abbrev pub TellsWhy : {A : Type 0} → Option Refusal → Result A Refusal → Type 0
@@ -66,25 +74,42 @@ pub record IsParted (width : ℕ) (h : Header) (bytes : List ℕ) (p : Parts) : 
   pub t_small : h.t < 2 ^ 8
   pub rounds_small : h.rounds < 2 ^ 16
 
--- the first 16 rows stand for the proposals, where there are no more
-abbrev pub HasRows : {R : Type 0} → Rules → (R → List ℕ) → Parts → List R → Type 0
-HasRows k plain p rows = p.proposals.count ≤ 16 → map (means k plain) (take p.proposals.count rows) ≡ map words (pieces_of p.proposals)
+-- the first rows stand for the proposals, where these are no more than 16
+abbrev pub HasRows : {R : Type 0} → Rules → (R → List ℕ) → Pieces → List R → Type 0
+HasRows k plain proposals rows = proposals.count ≤ 16 → map (means k plain) (take proposals.count rows) ≡ map words (pieces_of proposals)
+
+-- a file is taken apart and its proposals are read into rows, or it is refused before any call
+abbrev pub ReadsParts : {R : Type 0} → Rules → (R → List ℕ) → Header → List ℕ → List R → Result Parts Refusal → Type 0
+ReadsParts k plain h bytes rows result = MatchResult result
+    (λ parts. (file_refusal k h bytes ≡ None) × IsParted k.width h bytes parts × HasRows k plain parts.proposals rows)
+    (λ why. file_refusal k h bytes ≡ Some why)
 
 -- the open that a header and its parts ask for
 abbrev pub opens : Header → Parts → Asked
 opens h p = record { call = Open h.n h.t (map words (pieces_of p.proposals)) p.initial.0; round = None }
 
--- all calls that a header and the parts of its file ask for
+-- the rounds that sets and lines ask for, and all calls that a header and the parts of its file do
+abbrev pub rounds_in : (sets lines : Pieces) → List Asked
+rounds_in sets lines = rounds_from 0 (sets_in sets) (lines_in lines)
+
 abbrev pub calls_in : Header → Parts → List Asked
-calls_in h p = opens h p ∷ rounds_from 0 (sets_in p.sets) (lines_in p.lines)
+calls_in h p = opens h p ∷ rounds_in p.sets p.lines
+
+-- how many cells the block needs that is opened so
+abbrev pub cells_for : Setting → Meaning → Header → Parts → ℕ
+cells_for x m h p = needed (block_size (step x m Idle (opens h p).call).0)
+
+-- past the first so many all is as it was
+abbrev pub StaysPast : {X : Type 0} → ℕ → (before after : List X) → Type 0
+StaysPast n before after = drop n after ≡ drop n before
 
 -- none of the lines of a file with so many rounds is refused after a line of this round
 abbrev pub Checked : Rules → (rounds round : ℕ) → List format.Line → Type 0
 Checked k rounds round xs = lines_refusal k rounds round xs ≡ None
 
 -- none of the lines is of this round: they are of later ones
-abbrev pub AreLater : Rules → (rounds round : ℕ) → List format.Line → Type 0
-AreLater k rounds round xs = (lines_of round xs ≡ []) × Checked k rounds (suc round) xs
+abbrev pub AreLater : Rules → (rounds round : ℕ) → Pieces → Type 0
+AreLater k rounds round lines = (lines_of round (lines_in lines) ≡ []) × Checked k rounds (suc round) (lines_in lines)
 
 -- the first of some lines, which is of this round, and those behind it
 pub record IsNext {V R : Type 0} (k : Rules) (plain : R → List ℕ) (rounds round : ℕ) (lines : Pieces) (x : Line V R) (rest : Pieces) : Type 0 where

@@ -5,24 +5,34 @@ use values::Refusal;
 /// The kind of the values in a run file.
 #[derive(Clone, Copy, PartialEq, Eq, Debug)]
 pub enum ValueKind {
+    /// Setpoints, of two bytes each: code 0.
     Setpoint,
+    /// Sheets, of eight bytes each: code 1.
     Sheet,
 }
 
 /// The header of a run file.
 #[derive(Clone, Copy)]
 pub struct Header {
+    /// The kind of the values, by its code in byte 0.
     pub kind: ValueKind,
+    /// The model of faults, by its code in byte 1.
     pub model: Standard,
+    /// Whether there are stamps: byte 2.
     pub stamps: bool,
+    /// How many controllers there are: byte 3.
     pub n: u8,
+    /// How many controllers are seated at one time at most: byte 4.
     pub t: u8,
-    /// How many rounds there are.
+    /// How many rounds there are: bytes 6 and 7.
     pub rounds: u16,
-    /// How many forgery lines there are.
+    /// How many forgery lines there are: bytes 8 and 9.
     pub forgeries: u16,
+    /// The byte of the file at which the proposals start: bytes 10 and 11.
     pub proposals_at: u16,
+    /// The byte at which the sets start: bytes 12 and 13.
     pub sets_at: u16,
+    /// The byte at which the forgery lines start: bytes 14 and 15.
     pub forgeries_at: u16,
 }
 

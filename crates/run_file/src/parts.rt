@@ -15,22 +15,28 @@ const SET_WIDTH: usize = 2;
 /// The parts of a run file behind its header.
 #[derive(Clone, Copy)]
 pub(crate) struct Parts<'f> {
+    /// The bytes of each controller's proposal.
     pub proposals: Pieces<'f>,
+    /// The set of the round before the first.
     pub initial: Set,
+    /// The two bytes of each round's set.
     pub sets: Pieces<'f>,
+    /// The bytes of each forgery line.
     pub lines: Pieces<'f>,
 }
 
 impl<'f> Parts<'f> {
-    ghost use Rattle.std.specs.Prelude.{◌≡◌, false, MatchResult};
+    ghost use Rattle.std.specs.Prelude.{not, IfOk};
     ghost use Rattle.values.specs.declared.refusals.Refusal.TheVariants.{Layout};
+    ghost use Rattle.protocol.specs.Machine.{◌when◌};
     ghost use Rattle.run_file.specs.Files.{laid_out};
-    ghost use Rattle.run_file.specs.InCode.{IsParted};
+    ghost use Rattle.run_file.specs.InCode.{TellsWhy, IsParted};
 
     /// The parts of a file, if its offsets and its length are what the counts give for values of a width.
     pub(crate) fn of(file: &'f [u8], header: &Header, width: usize) -> Result<Parts<'f>, Refusal>
         requires { width ≤ 16 }
-        ensures { MatchResult result (λ parts. IsParted width header.now file.now parts) (λ why. (laid_out width header.now file.now ≡ false) × (why ≡ Layout)) }
+        ensures refused { TellsWhy (Layout when not (laid_out width header.now file.now)) result }
+        ensures parts { IfOk result (λ parts. IsParted width header.now file.now parts) }
     {
         let n = usize::from(header.n);
         let rounds = usize::from(header.rounds);

@@ -10,9 +10,9 @@ pub(crate) struct Pieces<'f> {
 }
 
 impl<'f> Pieces<'f> {
-    ghost use Rattle.std.specs.Prelude.{◌≡◌, ◌+◌, ◌∷◌, [], MatchOption};
+    ghost use Rattle.std.specs.Prelude.{◌≡◌, [], MatchOption};
     ghost use Rattle.run_file.specs.Files.{pieces};
-    ghost use Rattle.run_file.specs.InCode.{pieces_of};
+    ghost use Rattle.run_file.specs.InCode.{pieces_of, IsFirst};
 
     /// So many pieces, from the first byte on.
     pub(crate) fn over(count: usize, width: usize, bytes: &'f [u8]) -> Pieces<'f>
@@ -29,8 +29,7 @@ impl<'f> Pieces<'f> {
 
     /// The first piece, and those behind it.
     pub(crate) fn split_first(self) -> Option<(&'f [u8], Pieces<'f>)>
-        ensures { MatchOption result ((pieces_of self.entry ≡ []) × (self.entry.count ≡ 0))
-            (λ r. (pieces_of self.entry ≡ r.0.now ∷ pieces_of r.1) × (length r.0.now ≡ self.entry.width) × (r.1.width ≡ self.entry.width) × (self.entry.count ≡ r.1.count + 1)) }
+        ensures { MatchOption result ((pieces_of self.entry ≡ []) × (self.entry.count ≡ 0)) (λ r. IsFirst self.entry r.0.now r.1) }
     {
         if self.count == 0 {
             return None;

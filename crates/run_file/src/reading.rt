@@ -1,9 +1,7 @@
-ghost use Rattle.std.specs.Prelude.{◌≡◌, ◌≤◌, ◌<◌, ◌+◌, map, take, None, Some, MatchResult};
-ghost use Rattle.values.specs.Rules.{means, words};
+ghost use Rattle.std.specs.Prelude.{◌≤◌, OnOk};
 ghost use Rattle.run_file.specs.Files.{proposals_refusal};
 ghost use Rattle.run_file.specs.Lines.{lines_refusal};
-ghost use Rattle.run_file.specs.Listings.{file_refusal};
-ghost use Rattle.run_file.specs.InCode.{pieces_of, lines_in, TellsWhy, IsParted, HasRows};
+ghost use Rattle.run_file.specs.InCode.{pieces_of, lines_in, TellsWhy, HasRows, ReadsParts};
 
 use crate::headers::Header;
 use crate::lines::Line;
@@ -19,10 +17,8 @@ fn read_proposals<K: Kind>(
     proposals: Pieces,
     rows: &mut [K::Row; MOST_CONTROLLERS],
 ) -> Result<(), Refusal>
-    ensures { MatchResult result
-        (λ _. (proposals_refusal K.rules (pieces_of proposals.entry) ≡ None)
-        × (proposals.entry.count ≤ 16 → map (means K.rules K.plain) (take proposals.entry.count rows.new) ≡ map words (pieces_of proposals.entry)))
-        (λ why. proposals_refusal K.rules (pieces_of proposals.entry) ≡ Some why) }
+    ensures refused { TellsWhy (proposals_refusal K.rules (pieces_of proposals.entry)) result }
+    ensures read { OnOk result (HasRows K.rules K.plain proposals.entry rows.new) }
 {
     let mut rest = proposals;
     let mut controller = 0;
@@ -58,9 +54,7 @@ pub(crate) fn read_parts<'f, K: Kind>(
     rows: &mut [K::Row; MOST_CONTROLLERS],
 ) -> Result<Parts<'f>, Refusal>
     requires narrow { K.rules.width ≤ 16 }
-    ensures { MatchResult result
-        (λ parts. (file_refusal K.rules header.now file.now ≡ None) × IsParted K.rules.width header.now file.now parts × HasRows K.rules K.plain parts rows.new)
-        (λ why. file_refusal K.rules header.now file.now ≡ Some why) }
+    ensures { ReadsParts K.rules K.plain header.now file.now rows.new result }
 {
     let parts = Parts::of(file, header, K::WIDTH)?;
     read_proposals::<K>(parts.proposals, rows)?;

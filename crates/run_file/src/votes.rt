@@ -1,11 +1,10 @@
-ghost use Rattle.std.specs.Prelude.{◌≡◌, ◌≤◌, ◌<◌, [], ◌∷◌, map, drop, Some, MatchOption, MatchResult, IfOk, OnOk};
+ghost use Rattle.std.specs.Prelude.{◌≡◌, ◌≤◌, ◌<◌, [], ◌∷◌, map, Some, MatchOption, IfOk, IfErr, OnOk};
 ghost use Rattle.models.specs.Laws.{Meaning};
-ghost use Rattle.protocol.specs.Machine.{Idle, needed, step};
+ghost use Rattle.protocol.specs.Machine.{Idle, step};
 ghost use Rattle.run.specs.Turns.{size_of};
 ghost use Rattle.run.specs.Runs.{setting, state, Keeps};
-ghost use Rattle.run.specs.Promises.{block_size};
-ghost use Rattle.run_file.specs.Votes.{forges, lines_of, round_of, rounds_from};
-ghost use Rattle.run_file.specs.InCode.{stop_at, HasRows, lines_in, sets_in, Checked, AreLater, IsNext, Leaves, opens, calls_in, RunsThrough, RunsToEnd};
+ghost use Rattle.run_file.specs.Votes.{forges, lines_of, round_of};
+ghost use Rattle.run_file.specs.InCode.{stop_at, HasRows, lines_in, Checked, AreLater, IsNext, Leaves, opens, rounds_in, calls_in, cells_for, StaysPast, RunsThrough, RunsToEnd};
 
 use crate::headers::Header;
 use crate::lines::Line;
@@ -36,7 +35,7 @@ fn next_of_round<'f, K: Kind>(
 ) -> Option<(Line<K>, Pieces<'f>)>
     requires wide { 6 ≤ lines.width }
     requires checked { Checked K.rules rounds round (lines_in lines) }
-    ensures { MatchOption result (AreLater K.rules rounds round (lines_in lines.entry)) (λ r. IsNext K.rules K.plain rounds round lines.entry r.0 r.1) }
+    ensures { MatchOption result (AreLater K.rules rounds round lines.entry) (λ r. IsNext K.rules K.plain rounds round lines.entry r.0 r.1) }
 {
     let (bytes, rest) = lines.split_first()?;
     match Line::<K>::read(bytes, rounds, round) {
@@ -100,7 +99,7 @@ fn perform_rounds<K: Kind, M: Model>(
     requires narrow { sets.width ≡ 2 }
     requires wide { 6 ≤ lines.width }
     requires checked { Checked K.rules rounds 0 (lines_in lines) }
-    ensures performed { RunsToEnd (M.meaning model.now) (state run.old) (rounds_from 0 (sets_in sets.entry) (lines_in lines.entry)) run.old run.new result }
+    ensures performed { RunsToEnd (M.meaning model.now) (state run.old) (rounds_in sets.entry lines.entry) run.old run.new result }
     ensures keeps { Keeps run.old run.new }
 {
     let mut lines = lines;
@@ -124,10 +123,11 @@ fn open_block<K: Kind, M: Model>(
 ) -> Result<(), Stop>
     requires idle { state run.now ≡ Idle }
     requires count { parts.now.proposals.count ≡ header.now.n }
-    requires rows { HasRows K.rules K.plain parts.now proposals.now }
+    requires rows { HasRows K.rules K.plain parts.now.proposals proposals.now }
     ensures opened { RunsThrough (M.meaning model.now) (opens header.now parts.now ∷ []) run.old run.new result }
     ensures left { state run.new ≡ (step (setting run.old) (M.meaning model.now) Idle (opens header.now parts.now).call).0 }
-    ensures size { MatchResult result (λ _. (size_of run.new.turn ≡ header.now.n) × (0 < header.now.n) × (header.now.n ≤ 16)) (λ _. run.new.cells.now ≡ run.old.cells.now) }
+    ensures size { OnOk result ((size_of run.new.turn ≡ header.now.n) × (0 < header.now.n) × (header.now.n ≤ 16)) }
+    ensures unaltered { IfErr result (λ _. run.new.cells.now ≡ run.old.cells.now) }
     ensures keeps { Keeps run.old run.new }
 {
     let n = usize::from(header.n);
@@ -150,11 +150,11 @@ pub(crate) fn perform<K: Kind, M: Model>(
 ) -> Result<(), Stop>
     requires idle { state run.now ≡ Idle }
     requires count { parts.now.proposals.count ≡ header.now.n }
-    requires rows { HasRows K.rules K.plain parts.now proposals.now }
+    requires rows { HasRows K.rules K.plain parts.now.proposals proposals.now }
     requires sets { (parts.now.sets.width ≡ 2) × (parts.now.sets.count ≡ header.now.rounds) }
     requires lines { (6 ≤ parts.now.lines.width) × Checked K.rules header.now.rounds 0 (lines_in parts.now.lines) }
     ensures performed { RunsToEnd (M.meaning model.now) Idle (calls_in header.now parts.now) run.old run.new result }
-    ensures used { let used = needed (block_size (step (setting run.old) (M.meaning model.now) Idle (opens header.now parts.now).call).0) in drop used run.new.cells.now ≡ drop used run.old.cells.now }
+    ensures used { StaysPast (cells_for (setting run.old) (M.meaning model.now) header.now parts.now) run.old.cells.now run.new.cells.now }
     ensures size { OnOk result (header.now.n ≤ 16) }
     ensures keeps { Keeps run.old run.new }
 {

@@ -23,8 +23,8 @@ returns-in_err-open-clause-opened g c =
 pub returns-in_err-open-clause-left : goal.returns-in_err-open-clause-left
 returns-in_err-open-clause-left g c = ap (λ (q : State × Answer). q.0) (stepped (g.M.Model.meaning c.args.model.now) c.args.header.now c.args.parts.now c.args.run.now c.open.new.self c.open.result _ _ _ _ c.open.ensures c.requires.idle c.requires.rows c.requires.count c.from-n.ensures c.into.ensures (λ few. omega arith))
 
-pub returns-in_err-open-clause-size : goal.returns-in_err-open-clause-size
-returns-in_err-open-clause-size g c =
+pub returns-in_err-open-clause-unaltered : goal.returns-in_err-open-clause-unaltered
+returns-in_err-open-clause-unaltered g c =
     let why = c.in_err-open.field-0.0 in
     let told : stop_at None c.open.result ≡ Err (stop why) = ap (stop_at None) c.in_err-open.was in
     let same = cells_when_refused c.args.run.now c.open.new.self c.open.result (stop why) c.open.ensures told in

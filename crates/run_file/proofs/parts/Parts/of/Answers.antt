@@ -4,8 +4,8 @@ use Rattle.std.proofs.lemmas.Bool.Decides.{nat_tests}
 use Rattle.run_file.specs.Files.{word, pieces}
 use Rattle.run_file.proofs.parts.Parts.of.Goals as goal
 
-pub returns : goal.returns
-returns c =
+pub returns-clause-parts : goal.returns-clause-parts
+returns-clause-parts c =
     let file = c.args.file.now in
     let w = c.args.width in
     let h = c.args.header.now in
