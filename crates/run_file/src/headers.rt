@@ -3,7 +3,7 @@ use models::Standard;
 use values::Refusal;
 
 /// The kind of the values in a run file.
-#[derive(Clone, Copy, PartialEq, Eq, Debug)]
+#[derive(Clone, Copy)]
 pub enum ValueKind {
     /// Setpoints, of two bytes each: code 0.
     Setpoint,
