@@ -1,4 +1,4 @@
-use Rattle.std.proofs.Common.{◌≡◌, ◌∙◌, false, eqb, None, ◌∷◌, sym, ap, subst, map, arith}
+use Rattle.std.proofs.Common.{◌≡◌, false, eqb, None, ◌∷◌, ap, subst, map, arith}
 use Rattle.std.proofs.lemmas.Bool.Decides.{nat_tests}
 use Rattle.run_file.specs.Lines.{line, lines_refusal}
 use Rattle.run_file.specs.InCode.{lines_in}
@@ -19,10 +19,11 @@ returns-in-Ok g c =
     let x = line c.in_ok-bytes.bytes.now in
     let split = c.in_ok-bytes.ensures in
     let first : lines_refusal k c.args.rounds c.args.round (x ∷ lines_in c.in_ok-bytes.rest) ≡ None = subst (λ pieces. lines_refusal k c.args.rounds c.args.round (map line pieces) ≡ None) split.pieces c.requires.checked in
-    let of_round : x.round ≡ c.args.round = sym c.in-Ok.ensures.read.round ∙ c.if-read-round.true in
+    let read = c.in-Ok.ensures.read in
+    let of_round : x.round ≡ c.args.round = omega (arith, read.round) in
     record {
       is = x;
-      line = c.in-Ok.ensures.read;
+      line = read;
       first = ap (map line) split.pieces;
       of_round = of_round;
       checked = subst (λ r. lines_refusal k c.args.rounds r (lines_in c.in_ok-bytes.rest) ≡ None) of_round (rest_checked k c.args.rounds c.args.round x (lines_in c.in_ok-bytes.rest) first);
