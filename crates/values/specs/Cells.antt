@@ -1,8 +1,8 @@
 -- Cells by what they mean: nothing, or the numbers of a value. Assumes nothing.
-use Rattle.std.specs.Prelude.{ℕ, Bool, true, false, not, ◌&&◌, List, [], ◌∷◌, map, Some, None, count_by, Option, ◌==◌, nat_le, slice_index_or}
+use Rattle.std.specs.Prelude.{ℕ, Bool, true, false, not, ◌&&◌, List, [], ◌∷◌, map, Some, None, length, count_by, Option, ◌==◌, nat_le, slice_index_or}
 use Rattle.std.specs.Option.{option_map}
 use Rattle.values.specs.Rules.{Rules, means}
-use Rattle.values.specs.Counting.{count, lowest}
+use Rattle.values.specs.Counting.{count, lowest, IsLowest}
 
 -- a cell by its meaning
 abbrev pub Held : Type 0
@@ -59,6 +59,10 @@ meets least most held otherwise = nat_le least held && nat_le otherwise most
 abbrev pub qualifies : ℕ → ℕ → (ℕ → Held) → ℕ → List ℕ → Bool
 qualifies least most cells n v = meets least most (holders cells n v) (others cells n v)
 
+-- whether a cell is filled with a value that qualifies among the cells of a list
+abbrev pub qualifies_among : {R : Type 0} → Rules → (R → List ℕ) → (least most : ℕ) → List (Option R) → Option R → Bool
+qualifies_among k plain least most cells cell = passes (qualifies least most (seen k plain cells) (length cells)) (shows k plain cell)
+
 -- whether place i is filled with a value that qualifies
 abbrev pub qualifying : ℕ → ℕ → (ℕ → Held) → ℕ → ℕ → Bool
 qualifying least most cells n i = passes (qualifies least most cells n) (cells i)
@@ -66,3 +70,7 @@ qualifying least most cells n i = passes (qualifies least most cells n) (cells i
 -- the lowest place whose value qualifies
 abbrev pub winning : ℕ → ℕ → (ℕ → Held) → ℕ → Option ℕ
 winning least most cells n = lowest (qualifying least most cells n) n
+
+-- the law of the winner: its value qualifies, and no value at a lower place does; or there is no winner, and no value qualifies
+abbrev pub IsWinner : ℕ → ℕ → (ℕ → Held) → ℕ → Option ℕ → Type 0
+IsWinner least most cells n r = IsLowest (qualifying least most cells n) n r

@@ -1,17 +1,21 @@
 ghost use Rattle.std.specs.Prelude.{◌≡◌, length, IsTrue, ◌↔◌};
 ghost use Rattle.values.specs.Rules.{means};
-ghost use Rattle.values.specs.Counting.{IsLowest};
-ghost use Rattle.values.specs.Cells.{shows, seen, holders, others, meets, passes, qualifies, qualifying, winning};
+ghost use Rattle.values.specs.Cells.{seen, holders, others, meets, qualifies_among, winning, IsWinner};
 
 use crate::kinds::Kind;
 
 /// A place for a value, which lies in it as a row; `None` where it is empty.
+///
+/// The row may break its kind's rule, and then stands for the fallback: `Kind::value` gives the value that a row means.
+/// `==` on cells compares numbers, `same_value` what rows mean.
 pub type Cell<R> = Option<R>;
 
 /// What a value needs to qualify: so many holders at least, while so many cells at most are filled otherwise.
 #[derive(Clone, Copy, PartialEq, Eq, Debug)]
 pub struct Quorum {
+    /// At least so many cells hold the value.
     pub at_least: usize,
+    /// At most so many cells are filled with another.
     pub otherwise_at_most: usize,
 }
 
@@ -56,7 +60,7 @@ pub fn tally<K: Kind>(cells: &[Cell<K::Row>], row: &K::Row) -> (usize, usize)
 
 // Whether a cell is filled with a value that qualifies among the cells.
 fn qualifies<K: Kind>(cells: &[Cell<K::Row>], cell: &Cell<K::Row>, quorum: Quorum) -> bool
-    ensures { result ≡ passes (qualifies quorum.at_least quorum.otherwise_at_most (seen K.rules K.plain cells.now) (length cells.now)) (shows K.rules K.plain cell.now) }
+    ensures { result ≡ qualifies_among K.rules K.plain quorum.at_least quorum.otherwise_at_most cells.now cell.now }
 {
     cell.is_some_and(|row| quorum.is_met(tally::<K>(cells, &row)))
 }
@@ -64,7 +68,7 @@ fn qualifies<K: Kind>(cells: &[Cell<K::Row>], cell: &Cell<K::Row>, quorum: Quoru
 /// The lowest place whose value qualifies.
 pub fn winner<K: Kind>(cells: &[Cell<K::Row>], quorum: Quorum) -> Option<usize>
     ensures value { result ≡ winning quorum.at_least quorum.otherwise_at_most (seen K.rules K.plain cells.now) (length cells.now) }
-    ensures law { IsLowest (qualifying quorum.at_least quorum.otherwise_at_most (seen K.rules K.plain cells.now) (length cells.now)) (length cells.now) result }
+    ensures law { IsWinner quorum.at_least quorum.otherwise_at_most (seen K.rules K.plain cells.now) (length cells.now) result }
 {
     cells
         .iter()

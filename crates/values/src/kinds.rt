@@ -14,6 +14,10 @@ use crate::refusals::Refusal;
 // `TryFrom`: the laws of a kind would then have to tie the members of three traits.
 pub trait Kind: Sized + Drop {
     /// A value as it lies in a cell: plain numbers, under no rule.
+    ///
+    /// A row may break the kind's rule, and then stands for the fallback: `value` gives the value that a row means. Where
+    /// rows have `==` it compares their numbers: two rows that break the rule are two rows, but one value. `same_value`
+    /// compares what rows mean.
     type Row: Copy;
 
     /// The width of a value in bytes.

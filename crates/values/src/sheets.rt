@@ -17,9 +17,13 @@ pub struct Sheet {
 /// Four shares as plain numbers, under no rule.
 #[derive(Clone, Copy, PartialEq, Eq, Debug)]
 pub struct Shares {
+    /// The share of zone 0, in thousandths of the warm water.
     pub zone0: u16,
+    /// The share of zone 1, in thousandths.
     pub zone1: u16,
+    /// The share of zone 2, in thousandths.
     pub zone2: u16,
+    /// The share of zone 3, in thousandths.
     pub zone3: u16,
 }
 
