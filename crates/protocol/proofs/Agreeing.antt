@@ -8,7 +8,7 @@ use Rattle.models.specs.Sets.{has}
 use Rattle.models.specs.Laws.{Meaning, Few, Move, Kept, Lawful}
 use Rattle.protocol.specs.Stages.{coordinator_of}
 use Rattle.protocol.specs.Machine.{Setting, Block, Idle, seat_refusal, opened, closed, terms_of}
-use Rattle.protocol.specs.Transcripts.{Transcript, Opening, sets, closes, answered, set_of, Clean, HonestAtStart, Proposed, Filled, Agrees, transcript, Agreement}
+use Rattle.protocol.specs.Transcripts.{Transcript, Opening, sets, closes, answered, set_of, Clean, HonestProposed, Filled, Agrees, transcript, Agreement}
 use Rattle.protocol.proofs.Course.{Course, Obeys, kept, Decide, Ready, early, agreed, kept_from_start}
 use Rattle.protocol.proofs.Accepted.{Opens, open_accepted, seat_accepted, decision_accepted, behaves}
 use Rattle.protocol.proofs.Calls.{Forged, during, later, Asked, Started, from_idle, quiet}
@@ -137,7 +137,7 @@ module _ (x : Setting) (m : Meaning) (law : Lawful m) (o : Opening) (calls : Tra
       empty : (i : ℕ) (cell : Held) → answered calls i ≡ Some cell → closes (take i calls) < 3 * o.n → cell ≡ None
       empty i cell e lt = let a = answer i cell e in a.is ∙ early this fresh (closes (take i calls)) a.controller lt
 
-      valid : (w : List ℕ) → ((i : ℕ) → i < o.n → HonestAtStart m calls o i → Proposed o i w) → (i : ℕ) (v : List ℕ) → answered calls i ≡ Some (Some v) → v ≡ w
+      valid : (w : List ℕ) → HonestProposed m calls o w → (i : ℕ) (v : List ℕ) → answered calls i ≡ Some (Some v) → v ≡ w
       valid w proposed i v e = ⊎_elim begun unbegun (cases_lt 0 rounds)
         where
           begun : 0 < rounds → v ≡ w

@@ -7,7 +7,7 @@ use Rattle.models.specs.Sets.{members}
 use Rattle.models.specs.Laws.{Lawful}
 use Rattle.models.specs.Standards.{standard}
 use Rattle.protocol.specs.Stages.{stage_of}
-use Rattle.protocol.specs.Transcripts.{Filled, Opening, HonestAtStart, Proposed, Agrees, closes, answered}
+use Rattle.protocol.specs.Transcripts.{Filled, Opening, HonestProposed, Agrees, closes, answered}
 use Rattle.protocol.specs.Example.{Example, WholeVote, parted, alike, calls, called, last_call}
 use Rattle.protocol.specs.Votes.{ample, setting}
 use Rattle.protocol.proofs.Agreeing.{agreement}
@@ -41,7 +41,7 @@ unfolding count members stage_of
 late_alike = refl
 
 -- controller 3 proposed something else, but is in the initial set, and so not honest in round 0
-honest_propose_500 : (i : ℕ) → i < 4 → HonestAtStart (standard Carried) (called alike) alike i → Proposed alike i (500 ∷ [])
+honest_propose_500 : HonestProposed (standard Carried) (called alike) alike (500 ∷ [])
 unfolding count members stage_of
 honest_propose_500 zero lt h = refl
 honest_propose_500 (suc zero) lt h = refl

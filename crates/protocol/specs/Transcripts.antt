@@ -130,6 +130,10 @@ pub record HonestAtStart (m : Meaning) (log : Transcript) (o : Opening) (i : ℕ
 abbrev pub Proposed : Opening → (i : ℕ) → List ℕ → Type 0
 Proposed o i w = slice_index_or (map Some o.proposals) i None ≡ Some w
 
+-- all controllers that the model calls honest in round 0 proposed w
+abbrev pub HonestProposed : Meaning → Transcript → Opening → List ℕ → Type 0
+HonestProposed m log o w = (i : ℕ) → i < o.n → HonestAtStart m log o i → Proposed o i w
+
 abbrev pub Filled : Held → Type 0
 Filled cell = (x : List ℕ) × (cell ≡ Some x)
 
@@ -141,8 +145,8 @@ pub record Agrees (m : Meaning) (log : Transcript) (o : Opening) : Type 0 where
   pub filled : (c : ℕ) → Clean log o c → (i : ℕ) (cell : Held) → answered log i ≡ Some cell → 3 * o.n ≤ closes (take i log) → Filled cell
   -- every decision answered before it is empty; this needs no clean coordinator
   pub early : (i : ℕ) (cell : Held) → answered log i ≡ Some cell → closes (take i log) < 3 * o.n → cell ≡ None
-  -- if all controllers that the model calls honest in round 0 proposed w, every filled decision is w; this needs no clean coordinator
-  pub valid : (w : List ℕ) → ((i : ℕ) → i < o.n → HonestAtStart m log o i → Proposed o i w) → (i : ℕ) (x : List ℕ) → answered log i ≡ Some (Some x) → x ≡ w
+  -- if all who are honest in round 0 proposed w, every filled decision is w; this needs no clean coordinator
+  pub valid : (w : List ℕ) → HonestProposed m log o w → (i : ℕ) (x : List ℕ) → answered log i ≡ Some (Some x) → x ≡ w
 
 pub record Law (m : Meaning) (log : Transcript) : Type 0 where
   pub opened : (o : Opening) → opening log ≡ Some o → Agrees m log o

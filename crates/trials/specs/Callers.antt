@@ -1,12 +1,15 @@
 -- What callers of a run conclude, in their own words. Assumes nothing.
-use Rattle.std.specs.Prelude.{◌≡◌, ℕ, ◌+◌, ◌*◌, ◌<◌, ◌≤◌, false, List, length, Some, None, Option, IsSome, All, slice_index}
+use Rattle.std.specs.Prelude.{◌≡◌, ℕ, ◌+◌, ◌*◌, ◌<◌, ◌≤◌, false, List, ◌++◌, map, length, Some, None, Option, IsSome, All, slice_index}
 use Rattle.values.specs.Rules.{Rules, means}
 use Rattle.values.specs.declared.kinds.Kind.{Ghosts}
 use Rattle.models.specs.Laws.{Meaning}
 use Rattle.models.specs.Sets.{has}
+use Rattle.models.specs.declared.sets.Set.{Set}
 use Rattle.protocol.specs.Transcripts.{Transcript, opening, sets, closes, answered}
+use Rattle.run.specs.declared.calls.Opening.{Opening}
 use Rattle.run.specs.declared.run.Run.{Run}
 use Rattle.run.specs.Standing.{Continues}
+use Rattle.trials.specs.declared.callers.rounds.Plan.{Plan}
 
 -- controller c of a block of n is unseated in rounds 3c + 1 and 3c + 2, by the sets of the rounds
 pub record Spared (sets : List ℕ) (n c : ℕ) : Type 0 where
@@ -18,6 +21,10 @@ pub record Spared (sets : List ℕ) (n c : ℕ) : Type 0 where
 abbrev pub Same : {R : Type 0} → Rules → (R → List ℕ) → (a b : Option R) → Type 0
 Same {R = R} k plain a b = (x y : R) → a ≡ Some x → b ≡ Some y → means k plain x ≡ means k plain y
 
+-- with a clean coordinator two cells that are filled hold one value
+abbrev pub Agree : {R : Type 0} → Rules → (R → List ℕ) → (sets : List ℕ) (n : ℕ) (a b : Option R) → Type 0
+Agree k plain sets n a b = (c : ℕ) → Spared sets n c → Same k plain a b
+
 -- a cell that is filled holds w
 abbrev pub Holds : {R : Type 0} → Rules → (R → List ℕ) → (w : List ℕ) → Option R → Type 0
 Holds {R = R} k plain w cell = (row : R) → cell ≡ Some row → means k plain row ≡ w
@@ -26,13 +33,21 @@ Holds {R = R} k plain w cell = (row : R) → cell ≡ Some row → means k plain
 -- rounds, and one after all.
 pub record Concludes {R : Type 0} (k : Rules) (plain : R → List ℕ) (n : ℕ) (proposals : List R) (sets : List ℕ) (earlier : ℕ) (first second : Option R) : Type 0 where
   -- with a clean coordinator they answer one value, if both answer one
-  pub equal : (c : ℕ) → Spared sets n c → Same k plain first second
+  pub equal : Agree k plain sets n first second
   -- and after 3n rounds the second answers one
   pub filled : (c : ℕ) → Spared sets n c → 3 * n ≤ length sets → IsSome second
   -- before that many the first answers none
   pub early : earlier < 3 * n → first ≡ None
   -- where all proposed w, they answer no other value
   pub valid : (w : List ℕ) → All (λ row. means k plain row ≡ w) proposals → Holds k plain w first × Holds k plain w second
+
+-- the same where the first question came after the rounds of earlier sets, and the second after those of later ones too
+abbrev pub AskedTwice : {R : Type 0} → Rules → (R → List ℕ) → Opening R → (earlier later : List Set) → (Option R × Option R) → Type 0
+AskedTwice k plain o earlier later both = Concludes k plain o.n o.proposals.now (map (λ set. set.0) (earlier ++ later)) (length earlier) both.0 both.1
+
+-- What a caller concludes who ran a vote by plans and then asked two controllers: with a clean coordinator they answer one value, if both answer one.
+abbrev pub DecidedAlike : {R : Type 0} → Rules → (R → List ℕ) → Opening R → List (Plan R) → (Option R × Option R) → Type 0
+DecidedAlike k plain o plans both = Agree k plain (map (λ plan. plan.set.0) plans) o.n both.0 both.1
 
 -- Between two moments of a run the calls seated these sets and closed so many rounds, and nothing was opened or asked.
 pub record RunsRounds {V R : Type 0} {kind : Ghosts V R} (m : Meaning) (seated : List ℕ) (closed : ℕ) (before after : Run V R kind) : Type 0 where

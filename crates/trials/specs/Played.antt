@@ -3,7 +3,7 @@ use Rattle.std.specs.Prelude.{◌≡◌, ℕ, ◌<◌, List, take, Some, Result,
 use Rattle.values.specs.Rules.{Rules, means}
 use Rattle.values.specs.declared.refusals.Refusal.{Refusal}
 use Rattle.models.specs.Laws.{Meaning}
-use Rattle.protocol.specs.Transcripts.{Transcript, Opening, Clean, HonestAtStart, Proposed, opening}
+use Rattle.protocol.specs.Transcripts.{Transcript, Opening, Clean, HonestProposed, opening}
 use Rattle.run.specs.Promises.{log_of}
 use Rattle.run.specs.declared.calls.Call.{Call}
 use Rattle.run.specs.declared.calls.Answer.{Answer}
@@ -24,5 +24,4 @@ module _ {R : Type 0} (k : Rules) (plain : R → List ℕ) (count : ℕ) (calls 
 
   -- if all who are honest in round 0 proposed w, every filled decision is w
   abbrev pub AllProposed : Meaning → Type 0
-  AllProposed m = (o : Opening) → opening log ≡ Some o → (w : List ℕ) → ((i : ℕ) → i < o.n → HonestAtStart m log o i → Proposed o i w)
-      → (i : ℕ) (x : R) → DecidedAt i x → means k plain x ≡ w
+  AllProposed m = (o : Opening) → opening log ≡ Some o → (w : List ℕ) → HonestProposed m log o w → (i : ℕ) (x : R) → DecidedAt i x → means k plain x ≡ w

@@ -1,5 +1,5 @@
-ghost use Rattle.std.specs.Prelude.{◌++◌, map, length, IfOk};
-ghost use Rattle.trials.specs.Callers.{Concludes};
+ghost use Rattle.std.specs.Prelude.{IfOk};
+ghost use Rattle.trials.specs.Callers.{AskedTwice};
 
 use models::{LawfulModel, Set};
 use run::{Opening, Run};
@@ -15,7 +15,7 @@ pub fn ask_twice<K: Kind, M: LawfulModel>(
     later: &[Set],
     asked: (usize, usize),
 ) -> Result<(Cell<K::Row>, Cell<K::Row>), Refusal>
-    ensures { IfOk result (λ both. Concludes K.rules K.plain opening.entry.n opening.entry.proposals.now (map (λ set. set.0) (earlier.now ++ later.now)) (length earlier.now) both.0 both.1) }
+    ensures { IfOk result (AskedTwice K.rules K.plain opening.entry earlier.now later.now) }
 {
     model.lawful();
     let mut run = Run::<K>::new(cells);

@@ -1,7 +1,5 @@
-ghost use Rattle.std.specs.Prelude.{map, IfOk};
-ghost use Rattle.values.specs.Rules.{means};
-ghost use Rattle.run.specs.Runs.{setting, state};
-ghost use Rattle.trials.specs.FirstRounds.{FirstRound};
+ghost use Rattle.std.specs.Prelude.{IfOk};
+ghost use Rattle.trials.specs.FirstRounds.{RunsFirstRound};
 
 use models::{Set, Standard};
 use run::{Opening, Run};
@@ -13,7 +11,7 @@ pub fn first_round<K: Kind>(
     opening: Opening<K::Row>,
     set: Set,
 ) -> Result<(), Refusal>
-    ensures { IfOk result (λ _. FirstRound (setting run.old) opening.entry.n opening.entry.t (map (means K.rules K.plain) opening.entry.proposals.now) opening.entry.initial.0 set.0 (state run.new)) }
+    ensures { IfOk result (λ _. RunsFirstRound opening.entry set run.old run.new) }
 {
     run.open(&Standard::Unaware, opening)?;
     run.seat(&Standard::Unaware, set)?;

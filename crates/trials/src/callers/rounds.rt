@@ -1,14 +1,16 @@
-ghost use Rattle.std.specs.Prelude.{ℕ, [], ◌∷◌, map, IfOk};
-ghost use Rattle.trials.specs.Callers.{Spared, Same, RunsRounds};
+ghost use Rattle.std.specs.Prelude.{[], ◌∷◌, IfOk};
+ghost use Rattle.trials.specs.Callers.{DecidedAlike, RunsRounds};
 
 use models::{LawfulModel, Model, Set};
 use run::{Opening, Place, Run};
 use values::{Cell, Kind, Refusal};
 
-/// A round as a user plans it: who is seated, and what is forged.
+/// A round as a user plans it.
 #[derive(Clone, Copy)]
 pub struct Plan<'c, R> {
+    /// Who is seated.
     pub set: Set,
+    /// What is forged, one place after another; a later cell at a place replaces an earlier one.
     pub forgeries: &'c [(Place, Cell<R>)],
 }
 
@@ -35,7 +37,7 @@ pub fn run_plans<K: Kind, M: LawfulModel>(
     plans: &[Plan<K::Row>],
     asked: (usize, usize),
 ) -> Result<(Cell<K::Row>, Cell<K::Row>), Refusal>
-    ensures { IfOk result (λ both. (c : ℕ) → Spared (map (λ plan. plan.set.0) plans.now) opening.entry.n c → Same K.rules K.plain both.0 both.1) }
+    ensures { IfOk result (DecidedAlike K.rules K.plain opening.entry plans.now) }
 {
     model.lawful();
     let mut run = Run::<K>::new(cells);
