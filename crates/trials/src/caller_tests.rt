@@ -3,10 +3,12 @@ use crate::callers::first_round::first_round;
 use crate::callers::listed::list_vote;
 use crate::callers::played::perform_all;
 use crate::callers::rounds::{Plan, run_plans};
-use crate::helpers::{DONE, decided, decision, open, seat};
+use crate::helpers::Step::{Close, Decision, Open, Seat};
+use crate::helpers::{DONE, Step, call_of};
 use crate::rising::Rising;
 use models::{Set, Standard};
-use run::{Answer, Call, Opening, Place, Run};
+use run::Answer::Decided;
+use run::{Answer, Opening, Place, Run};
 use values::{Refusal, Setpoint};
 
 const ALL_480: [u16; 6] = [480; 6];
@@ -73,16 +75,17 @@ fn plans_pass_over_refused_forgeries(rt: HostRuntime) {
 
 #[test]
 fn a_list_is_performed(rt: HostRuntime) {
-    let calls = [
-        open(1, 0, &[500], 0),
-        seat(0),
-        Call::Close,
-        seat(0),
-        Call::Close,
-        seat(0),
-        Call::Close,
-        decision(0),
+    const STEPS: [Step; 8] = [
+        Open(1, 0, &[500], 0),
+        Seat(0),
+        Close,
+        Seat(0),
+        Close,
+        Seat(0),
+        Close,
+        Decision(0),
     ];
+    let calls = STEPS.map(call_of);
     let mut cells = [None; 8];
     let mut answers = [Ok(Answer::Done); 8];
     let count = perform_all::<Setpoint, Standard>(
@@ -93,7 +96,7 @@ fn a_list_is_performed(rt: HostRuntime) {
     );
     assert_eq!(rt; count, 8);
     assert_eq!(rt; answers[6].map_err(u8::from), DONE);
-    assert_eq!(rt; answers[7].map_err(u8::from), decided(Some(500)));
+    assert_eq!(rt; answers[7].map_err(u8::from), Ok(Decided(Some(500))));
 }
 
 #[test]

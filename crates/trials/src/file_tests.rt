@@ -1,6 +1,7 @@
 use crate::helpers::shares;
 use models::Standard;
 use run_file::{Listing, list};
+use std::process::Abort;
 use values::{Buffer, Cell, Shares};
 
 // Two controllers, no upsets, six rounds.
@@ -102,6 +103,32 @@ fn put_vote(out: &mut Buffer, vote: &Vote) {
     }
 }
 
+// The text that a vote's file is listed with, and the number, behind what of the vote is another than in a vote at hand:
+// its t, proposals and sets, or its lines.
+type Opened<'a> = (u8, &'a [u16], &'a [u16], &'a [u8], u8);
+
+type Lined<'a> = (&'a [Line], &'a [u8], u8);
+
+fn come_to(rt: &impl Abort, vote: Vote, cases: &[Opened]) {
+    for (at, (t, proposals, sets, expected, number)) in cases.iter().enumerate() {
+        let t = *t;
+        let other = Vote {
+            t,
+            proposals,
+            sets,
+            ..vote
+        };
+        assert!(rt; comes_to(&other, expected, *number), "in case {at}");
+    }
+}
+
+fn lines_come_to(rt: &impl Abort, vote: Vote, cases: &[Lined]) {
+    for (at, (lines, expected, number)) in cases.iter().enumerate() {
+        let other = Vote { lines, ..vote };
+        assert!(rt; comes_to(&other, expected, *number), "in case {at}");
+    }
+}
+
 // Whether the file of a vote is listed so.
 fn comes_to(vote: &Vote, expected: &[u8], number: u8) -> bool {
     let mut room = [0; 2048];
@@ -141,8 +168,8 @@ fn a_file_has_16_to_65535_bytes(rt: HostRuntime) {
 
 #[test]
 fn codes_have_a_meaning(rt: HostRuntime) {
-    for (at, byte) in [(0, 2), (0, 255), (1, 5), (1, 255), (2, 2), (2, 255), (5, 1)] {
-        let mut file = altered(at, byte);
+    for (at, byte) in &[(0, 2), (0, 255), (1, 5), (1, 255), (2, 2), (2, 255), (5, 1)] {
+        let mut file = altered(*at, *byte);
         assert!(rt; lists(&file, b"refused 22\n", 22), "{byte} at {at}");
         file[10] = 17; // also 23
         assert!(rt; lists(&file, b"refused 22\n", 22), "{byte} at {at}");
@@ -152,15 +179,15 @@ fn codes_have_a_meaning(rt: HostRuntime) {
 #[test]
 fn offsets_and_length_are_what_the_counts_give(rt: HostRuntime) {
     let offsets = [(10, 15), (10, 17), (12, 19), (12, 21), (14, 33), (14, 35)];
-    for (at, byte) in offsets {
-        let mut file = altered(at, byte);
+    for (at, byte) in &offsets {
+        let mut file = altered(*at, *byte);
         assert!(rt; lists(&file, b"refused 23\n", 23), "{byte} at {at}");
         file[17] = 0xff; // also 24
         assert!(rt; lists(&file, b"refused 23\n", 23), "{byte} at {at}");
     }
     // the kind, n, R and G, and the high bytes of the offsets
-    for at in [0, 3, 6, 7, 8, 9, 11, 13, 15] {
-        assert!(rt; lists(&altered(at, 1), b"refused 23\n", 23), "1 at {at}");
+    for at in &[0, 3, 6, 7, 8, 9, 11, 13, 15] {
+        assert!(rt; lists(&altered(*at, 1), b"refused 23\n", 23), "1 at {at}");
     }
     assert!(rt; lists(&WORKED[..33], b"refused 23\n", 23));
     let mut longer = [0; 35];
@@ -171,123 +198,111 @@ fn offsets_and_length_are_what_the_counts_give(rt: HostRuntime) {
     assert!(rt; lists(&wrapped, b"refused 23\n", 23));
 }
 
+const PROPOSED: Vote = Vote {
+    model: Standard::Aware,
+    stamps: false,
+    t: 0,
+    proposals: &[200, 900],
+    sets: &[0],
+    lines: &[],
+};
+
+const UNLAWFUL: [Opened; 4] = [
+    (0, &[199, 500], &[0], b"refused 24\n", 24),
+    (0, &[500, 199], &[0], b"refused 24\n", 24),
+    (0, &[901, 500], &[0], b"refused 24\n", 24),
+    (0, &[500, 901], &[0], b"refused 24\n", 24),
+];
+
 #[test]
 fn proposals_are_lawful(rt: HostRuntime) {
-    let vote = Vote {
-        model: Standard::Aware,
-        stamps: false,
-        t: 0,
-        proposals: &[200, 900],
-        sets: &[0],
-        lines: &[],
+    let lawful = b"run 2 0 0\n0 none\n1 none\n";
+    assert!(rt; comes_to(&PROPOSED, lawful, 0));
+    come_to(&rt, PROPOSED, &UNLAWFUL);
+    let faulty = Vote {
+        lines: &[(0, [0, 0, 0, 2], 0)],
+        ..PROPOSED
     };
-    assert!(rt; comes_to(&vote, b"run 2 0 0\n0 none\n1 none\n", 0));
-    let pairs = [[199, 500], [500, 199], [901, 500], [500, 901]];
-    for proposals in pairs {
-        let unlawful = Vote {
-            proposals: &proposals,
-            ..vote
-        };
-        assert!(rt;
-            comes_to(&unlawful, b"refused 24\n", 24),
-            "of {proposals:?}"
-        );
-        let faulty = Vote {
-            lines: &[(0, [0, 0, 0, 2], 0)],
-            ..unlawful
-        };
-        assert!(rt; comes_to(&faulty, b"refused 24\n", 24), "of {proposals:?}"); // also 25
-    }
+    come_to(&rt, faulty, &UNLAWFUL); // also 25
 }
+
+const LINED: Vote = Vote {
+    model: Standard::Fixed,
+    stamps: false,
+    t: 1,
+    proposals: &[500; 4],
+    sets: &[8; 4],
+    lines: &[],
+};
+
+const SOUND: &[Line] = &[
+    (1, [3, 0, 0, 0], 0),
+    (1, [3, 0, 0, 1], 200),
+    (2, [3, 0, 0, 1], 900),
+];
+
+// the round of the line before
+const OUT_OF_ORDER: &[Line] = &[
+    (0, [3, 0, 0, 0], 0),
+    (2, [3, 0, 0, 0], 0),
+    (1, [3, 0, 0, 0], 0),
+];
+
+const VALUE_FIRST: &[Line] = &[(1, [3, 0, 0, 1], 199), (0, [3, 0, 0, 2], 0)];
+
+const TAG_FIRST: &[Line] = &[(1, [3, 0, 0, 2], 0), (1, [3, 0, 0, 1], 199)];
+
+// all lines are checked before anything is forged
+const NOT_FORGEABLE: &[Line] = &[(0, [0, 0, 0, 1], 500), (2, [3, 0, 0, 1], 199)];
+
+const LINES: [Lined; 15] = [
+    (SOUND, b"run 4 1 3\n0 none\n1 none\n2 none\n3 upset\n", 0),
+    (&[(3, [3, 0, 0, 1], 500)], b"refused 25\n", 25),
+    (&[(3, [3, 0, 0, 1], 199)], b"refused 25\n", 25), // also 24
+    (&[(0, [3, 0, 0, 2], 0)], b"refused 25\n", 25),
+    (&[(0, [3, 0, 0, 2], 199)], b"refused 25\n", 25),
+    (&[(0, [3, 0, 0, 255], 500)], b"refused 25\n", 25),
+    (&[(0, [3, 0, 0, 0], 1)], b"refused 25\n", 25),
+    (&[(0, [3, 0, 0, 0], 256)], b"refused 25\n", 25),
+    (&[(0, [3, 0, 0, 1], 0)], b"refused 24\n", 24),
+    (&[(0, [3, 0, 0, 1], 199)], b"refused 24\n", 24),
+    (&[(0, [3, 0, 0, 1], 901)], b"refused 24\n", 24),
+    (OUT_OF_ORDER, b"refused 25\n", 25),
+    (VALUE_FIRST, b"refused 24\n", 24),
+    (TAG_FIRST, b"refused 25\n", 25),
+    (NOT_FORGEABLE, b"refused 24\n", 24), // also 10
+];
 
 #[test]
 fn the_first_faulty_line_counts(rt: HostRuntime) {
-    let vote = Vote {
-        model: Standard::Fixed,
-        stamps: false,
-        t: 1,
-        proposals: &[500, 500, 500, 500],
-        sets: &[8; 4],
-        lines: &[],
-    };
-    let listed = b"run 4 1 3\n0 none\n1 none\n2 none\n3 upset\n";
-    let sound = [
-        (1, [3, 0, 0, 0], 0),
-        (1, [3, 0, 0, 1], 200),
-        (2, [3, 0, 0, 1], 900),
-    ];
-    let lines = &sound;
-    assert!(rt; comes_to(&Vote { lines, ..vote }, listed, 0));
-    let single = [
-        ((3, [3, 0, 0, 1], 500), 25),
-        ((3, [3, 0, 0, 1], 199), 25), // also 24
-        ((0, [3, 0, 0, 2], 0), 25),
-        ((0, [3, 0, 0, 2], 199), 25),
-        ((0, [3, 0, 0, 255], 500), 25),
-        ((0, [3, 0, 0, 0], 1), 25),
-        ((0, [3, 0, 0, 0], 256), 25),
-        ((0, [3, 0, 0, 1], 0), 24),
-        ((0, [3, 0, 0, 1], 199), 24),
-        ((0, [3, 0, 0, 1], 901), 24),
-    ];
-    for (line, number) in single {
-        let lines = &[line];
-        let expected = if number == 24 {
-            b"refused 24\n"
-        } else {
-            b"refused 25\n"
-        };
-        assert!(rt;
-            comes_to(&Vote { lines, ..vote }, expected, number),
-            "of {line:?}"
-        );
-    }
-    // the round of the line before
-    let lines = &[
-        (0, [3, 0, 0, 0], 0),
-        (2, [3, 0, 0, 0], 0),
-        (1, [3, 0, 0, 0], 0),
-    ];
-    assert!(rt; comes_to(&Vote { lines, ..vote }, b"refused 25\n", 25));
-    let lines = &[(1, [3, 0, 0, 1], 199), (0, [3, 0, 0, 2], 0)];
-    assert!(rt; comes_to(&Vote { lines, ..vote }, b"refused 24\n", 24));
-    let lines = &[(1, [3, 0, 0, 2], 0), (1, [3, 0, 0, 1], 199)];
-    assert!(rt; comes_to(&Vote { lines, ..vote }, b"refused 25\n", 25));
-    // all lines are checked before anything is forged
-    let lines = &[(0, [0, 0, 0, 1], 500), (2, [3, 0, 0, 1], 199)];
-    assert!(rt; comes_to(&Vote { lines, ..vote }, b"refused 24\n", 24)); // also 10
+    lines_come_to(&rt, LINED, &LINES);
 }
+
+const OPENED: Vote = Vote {
+    model: Standard::Unaware,
+    stamps: false,
+    t: 1,
+    proposals: &[500; 6],
+    sets: &[1 << 5],
+    lines: &[],
+};
+
+const OPENS: [Opened; 8] = [
+    (1, &[], &[1 << 5], b"refused 1\n", 1), // also 2, 3, 6
+    (1, &[500; 17], &[1 << 5], b"refused 1\n", 1), // also 4
+    (1, &[199; 17], &[1 << 5], b"refused 24\n", 24), // also 1
+    (6, &[500; 6], &[1 << 5], b"refused 2\n", 2), // also 3
+    (255, &[500; 6], &[1 << 5], b"refused 2\n", 2), // also 3
+    (1, &[500; 5], &[1 << 5], b"refused 3\n", 3), // also 6
+    (1, &[500; 6], &[1 << 6], b"refused 6\n", 6),
+    (1, &[500; 6], &[0b11], b"refused 6\n", 6),
+];
 
 #[test]
 fn a_refused_open_is_told_without_a_round(rt: HostRuntime) {
-    let vote = Vote {
-        model: Standard::Unaware,
-        stamps: false,
-        t: 1,
-        proposals: &[500; 6],
-        sets: &[1 << 5],
-        lines: &[],
-    };
     let listed = b"run 6 1 0\n0 none\n1 none\n2 none\n3 none\n4 none\n5 upset\n";
-    assert!(rt; comes_to(&vote, listed, 0));
-    let proposals = &[];
-    assert!(rt; comes_to(&Vote { proposals, ..vote }, b"refused 1\n", 1)); // also 2, 3, 6
-    let proposals = &[500; 17];
-    assert!(rt; comes_to(&Vote { proposals, ..vote }, b"refused 1\n", 1)); // also 4
-    let proposals = &[199; 17];
-    assert!(rt; comes_to(&Vote { proposals, ..vote }, b"refused 24\n", 24)); // also 1
-    for t in [6, 255] {
-        assert!(rt; comes_to(&Vote { t, ..vote }, b"refused 2\n", 2)); // also 3
-    }
-    let proposals = &[500; 5];
-    assert!(rt; comes_to(&Vote { proposals, ..vote }, b"refused 3\n", 3)); // also 6
-    for set in [1 << 6, 0b11] {
-        let sets = &[set];
-        assert!(rt;
-            comes_to(&Vote { sets, ..vote }, b"refused 6\n", 6),
-            "of {set}"
-        );
-    }
+    assert!(rt; comes_to(&OPENED, listed, 0));
+    come_to(&rt, OPENED, &OPENS);
 }
 
 #[test]
@@ -306,84 +321,69 @@ fn a_store_of_one_cell_too_few_is_refused(rt: HostRuntime) {
     assert_eq!(rt; listed, Listing { len: 22, number: 0 });
 }
 
+const MOVED: Vote = Vote {
+    sets: &[8, 8, 8, 4, 8],
+    ..LINED
+};
+
+const SEATS: [Opened; 5] = [
+    (1, &[500; 4], &[8, 8, 8, 4, 8], b"refused 7 round 2\n", 7),
+    (1, &[500; 4], &[8, 1 << 4], b"refused 6 round 0\n", 6), // also 7
+    (1, &[500; 4], &[8, 8, 0b1100], b"refused 6 round 1\n", 6), // also 7
+    // 1,000 rounds are the most
+    (0, &[500], &[0; 1001], b"run 1 0 1000\n0 500\n", 0),
+    (0, &[500], &[0; 1002], b"refused 11 round 1000\n", 11),
+];
+
+// what is refused first counts
+const FORGED_BEFORE: [Lined; 1] = [(&[(1, [0, 0, 0, 1], 500)], b"refused 10 round 1\n", 10)];
+
 #[test]
 fn a_refused_seat_is_told_with_its_round(rt: HostRuntime) {
-    let vote = Vote {
-        model: Standard::Fixed,
-        stamps: false,
-        t: 1,
-        proposals: &[500; 4],
-        sets: &[8, 8, 8, 4, 8],
-        lines: &[],
-    };
-    assert!(rt; comes_to(&vote, b"refused 7 round 2\n", 7));
-    let sets = &[8, 1 << 4];
-    assert!(rt; comes_to(&Vote { sets, ..vote }, b"refused 6 round 0\n", 6)); // also 7
-    let sets = &[8, 8, 0b1100];
-    assert!(rt; comes_to(&Vote { sets, ..vote }, b"refused 6 round 1\n", 6)); // also 7
-    // what is refused first counts
-    let lines = &[(1, [0, 0, 0, 1], 500)];
-    assert!(rt; comes_to(&Vote { lines, ..vote }, b"refused 10 round 1\n", 10));
-    // 1,000 rounds are the most
-    let long = Vote {
-        t: 0,
-        proposals: &[500],
-        sets: &[0; 1001],
-        ..vote
-    };
-    assert!(rt; comes_to(&long, b"run 1 0 1000\n0 500\n", 0));
-    let sets = &[0; 1002];
-    assert!(rt; comes_to(&Vote { sets, ..long }, b"refused 11 round 1000\n", 11));
+    come_to(&rt, LINED, &SEATS);
+    lines_come_to(&rt, MOVED, &FORGED_BEFORE);
 }
+
+// In round 0 controller 0 is honest, 1 uniform and 2 free.
+const FORGED: Vote = Vote {
+    sets: &[2, 4, 4, 4],
+    ..OPENED
+};
+
+const FORGEABLE: &[Line] = &[
+    (0, [1, 0, 0, 1], 500),
+    (0, [2, 5, 0, 0], 0),
+    (2, [2, 5, 5, 1], 500),
+];
+
+const LISTED: &[u8] = b"run 6 1 3\n0 none\n1 none\n2 upset\n3 none\n4 none\n5 none\n";
+
+// in round 1 controller 1 is honest again
+const HONEST_AGAIN: &[Line] = &[(0, [1, 0, 0, 1], 500), (1, [1, 0, 0, 1], 500)];
+
+// the message of round 2 has six columns
+const SEVENTH: &[Line] = &[(1, [2, 0, 0, 1], 500), (2, [2, 0, 6, 1], 500)];
+
+const FORGERIES: [Lined; 9] = [
+    (FORGEABLE, LISTED, 0),
+    (&[(0, [6, 0, 0, 1], 500)], b"refused 9 round 0\n", 9),
+    (&[(0, [255, 0, 0, 1], 500)], b"refused 9 round 0\n", 9),
+    (&[(0, [0, 6, 0, 1], 500)], b"refused 9 round 0\n", 9), // also 10
+    (&[(0, [2, 0, 1, 1], 500)], b"refused 9 round 0\n", 9),
+    (&[(0, [0, 0, 0, 1], 500)], b"refused 10 round 0\n", 10),
+    (&[(0, [1, 1, 0, 1], 500)], b"refused 10 round 0\n", 10),
+    (HONEST_AGAIN, b"refused 10 round 1\n", 10),
+    (SEVENTH, b"refused 9 round 2\n", 9),
+];
+
+// under aware controller 1 is silent
+const SILENT: [Lined; 1] = [(&[(0, [1, 0, 0, 0], 0)], b"refused 10 round 0\n", 10)];
 
 #[test]
 fn a_refused_forgery_is_told_with_its_round(rt: HostRuntime) {
-    // in round 0 controller 0 is honest, 1 uniform and 2 free
-    let vote = Vote {
-        model: Standard::Unaware,
-        stamps: false,
-        t: 1,
-        proposals: &[500; 6],
-        sets: &[2, 4, 4, 4],
-        lines: &[],
-    };
-    let sound = [
-        (0, [1, 0, 0, 1], 500),
-        (0, [2, 5, 0, 0], 0),
-        (2, [2, 5, 5, 1], 500),
-    ];
-    let lines = &sound;
-    let listed = b"run 6 1 3\n0 none\n1 none\n2 upset\n3 none\n4 none\n5 none\n";
-    assert!(rt; comes_to(&Vote { lines, ..vote }, listed, 0));
-    let places = [
-        [6, 0, 0, 1],
-        [255, 0, 0, 1],
-        [0, 6, 0, 1], // also 10
-        [2, 0, 1, 1],
-    ];
-    for place in places {
-        let lines = &[(0, place, 500)];
-        let refused = comes_to(&Vote { lines, ..vote }, b"refused 9 round 0\n", 9);
-        assert!(rt; refused, "at {place:?}");
-    }
-    for place in [[0, 0, 0, 1], [1, 1, 0, 1]] {
-        let lines = &[(0, place, 500)];
-        let refused = comes_to(&Vote { lines, ..vote }, b"refused 10 round 0\n", 10);
-        assert!(rt; refused, "at {place:?}");
-    }
-    // in round 1 controller 1 is honest again
-    let lines = &[(0, [1, 0, 0, 1], 500), (1, [1, 0, 0, 1], 500)];
-    assert!(rt; comes_to(&Vote { lines, ..vote }, b"refused 10 round 1\n", 10));
-    // the message of round 2 has six columns
-    let lines = &[(1, [2, 0, 0, 1], 500), (2, [2, 0, 6, 1], 500)];
-    assert!(rt; comes_to(&Vote { lines, ..vote }, b"refused 9 round 2\n", 9));
-    // under aware controller 1 is silent
-    let silent = Vote {
-        model: Standard::Aware,
-        lines: &[(0, [1, 0, 0, 0], 0)],
-        ..vote
-    };
-    assert!(rt; comes_to(&silent, b"refused 10 round 0\n", 10));
+    lines_come_to(&rt, FORGED, &FORGERIES);
+    let model = Standard::Aware;
+    lines_come_to(&rt, Vote { model, ..FORGED }, &SILENT);
 }
 
 #[test]
@@ -402,28 +402,29 @@ fn without_rounds_the_initial_set_is_upset(rt: HostRuntime) {
     assert!(rt; comes_to(&vote, expected, 0));
 }
 
+const MODELS: [Standard; 5] = [
+    Standard::Aware,
+    Standard::Unaware,
+    Standard::Buffered,
+    Standard::Carried,
+    Standard::Fixed,
+];
+
+const ONE: [Opened; 2] = [
+    (0, &[500], &[0; 4], b"run 1 0 3\n0 500\n", 0),
+    (0, &[500], &[0; 3], b"run 1 0 2\n0 none\n", 0),
+];
+
 #[test]
 fn a_block_of_one_decides_in_three_rounds(rt: HostRuntime) {
-    let models = [
-        Standard::Aware,
-        Standard::Unaware,
-        Standard::Buffered,
-        Standard::Carried,
-        Standard::Fixed,
-    ];
-    for model in models {
+    for model in &MODELS {
         for stamps in [false, true] {
             let vote = Vote {
-                model,
+                model: *model,
                 stamps,
-                t: 0,
-                proposals: &[500],
-                sets: &[0; 4],
-                lines: &[],
+                ..LINED
             };
-            assert!(rt; comes_to(&vote, b"run 1 0 3\n0 500\n", 0));
-            let sets = &[0; 3];
-            assert!(rt; comes_to(&Vote { sets, ..vote }, b"run 1 0 2\n0 none\n", 0));
+            come_to(&rt, vote, &ONE);
         }
     }
 }
@@ -471,8 +472,11 @@ fn a_sheet_line_is_checked_whole(rt: HostRuntime) {
 #[test]
 fn cells_that_no_run_needs_stay(rt: HostRuntime) {
     // none of these opens a run
-    for (at, byte, number) in [(0, 2, 22), (10, 17, 23), (17, 4, 24), (4, 2, 2), (20, 4, 6)] {
-        assert!(rt; leaves_cells(&altered(at, byte), number), "{byte} at {at}");
+    for (at, byte, number) in &[(0, 2, 22), (10, 17, 23), (17, 4, 24), (4, 2, 2), (20, 4, 6)] {
+        assert!(rt;
+            leaves_cells(&altered(*at, *byte), *number),
+            "{byte} at {at}"
+        );
     }
     let mut setpoints = [OLD; 30];
     let mut sheets = [old_sheet(); 30];
@@ -484,55 +488,58 @@ fn cells_that_no_run_needs_stay(rt: HostRuntime) {
 
 // Each hears 500, 500, 600 and what 3 tells it; 500 wins with a third cell. Only if two hold it after the first round
 // does the first phase end with 500; else it ends with the fallback.
+const TOLD: Vote = Vote {
+    proposals: &[500, 500, 600, 700],
+    sets: &[8; 13],
+    ..LINED
+};
+
+const FALLBACK: &[u8] = b"run 4 1 12\n0 400\n1 400\n2 400\n3 upset\n";
+
+const HIGH: &[u8] = b"run 4 1 12\n0 500\n1 500\n2 500\n3 upset\n";
+
+const EMPTIED: &[Line] = &[
+    (0, [3, 0, 0, 1], 500),
+    (0, [3, 1, 0, 1], 500),
+    (0, [3, 1, 0, 0], 0),
+];
+
+const REPLACED: &[Line] = &[
+    (0, [3, 1, 0, 1], 600),
+    (0, [3, 0, 0, 1], 500),
+    (0, [3, 1, 0, 1], 500),
+];
+
+const LAST_FORGED: [Lined; 4] = [
+    (&[], FALLBACK, 0),
+    (&[(0, [3, 0, 0, 1], 500), (0, [3, 1, 0, 1], 500)], HIGH, 0),
+    (EMPTIED, FALLBACK, 0),
+    (REPLACED, HIGH, 0),
+];
+
 #[test]
 fn what_is_forged_last_counts(rt: HostRuntime) {
-    let vote = Vote {
-        model: Standard::Fixed,
-        stamps: false,
-        t: 1,
-        proposals: &[500, 500, 600, 700],
-        sets: &[8; 13],
-        lines: &[],
-    };
-    let fallback = b"run 4 1 12\n0 400\n1 400\n2 400\n3 upset\n";
-    let high = b"run 4 1 12\n0 500\n1 500\n2 500\n3 upset\n";
-    assert!(rt; comes_to(&vote, fallback, 0));
-    let lines = &[(0, [3, 0, 0, 1], 500), (0, [3, 1, 0, 1], 500)];
-    assert!(rt; comes_to(&Vote { lines, ..vote }, high, 0));
-    let emptied = [
-        (0, [3, 0, 0, 1], 500),
-        (0, [3, 1, 0, 1], 500),
-        (0, [3, 1, 0, 0], 0),
-    ];
-    let lines = &emptied;
-    assert!(rt; comes_to(&Vote { lines, ..vote }, fallback, 0));
-    let replaced = [
-        (0, [3, 1, 0, 1], 600),
-        (0, [3, 0, 0, 1], 500),
-        (0, [3, 1, 0, 1], 500),
-    ];
-    let lines = &replaced;
-    assert!(rt; comes_to(&Vote { lines, ..vote }, high, 0));
+    lines_come_to(&rt, TOLD, &LAST_FORGED);
 }
 
 // Each hears 500, 600 and what 2 tells, which is the same for all.
+const STAMPED: Vote = Vote {
+    stamps: true,
+    proposals: &[500, 600, 700],
+    sets: &[4; 10],
+    ..LINED
+};
+
+const TOLD_ALL: [Lined; 2] = [
+    (
+        &[(0, [2, 0, 0, 1], 600)],
+        b"run 3 1 9\n0 600\n1 600\n2 upset\n",
+        0,
+    ),
+    (&[], b"run 3 1 9\n0 400\n1 400\n2 upset\n", 0),
+];
+
 #[test]
 fn a_stamped_forgery_reaches_all(rt: HostRuntime) {
-    let vote = Vote {
-        model: Standard::Fixed,
-        stamps: true,
-        t: 1,
-        proposals: &[500, 600, 700],
-        sets: &[4; 10],
-        lines: &[(0, [2, 0, 0, 1], 600)],
-    };
-    assert!(rt; comes_to(&vote, b"run 3 1 9\n0 600\n1 600\n2 upset\n", 0));
-    let lines = &[];
-    assert!(rt;
-        comes_to(
-            &Vote { lines, ..vote },
-            b"run 3 1 9\n0 400\n1 400\n2 upset\n",
-            0
-        )
-    );
+    lines_come_to(&rt, STAMPED, &TOLD_ALL);
 }

@@ -1,6 +1,7 @@
-use crate::helpers::{DONE, follow, forge, open, perform, seat};
+use crate::helpers::Step::{Close, Forge, Open, Seat};
+use crate::helpers::{DONE, Outcome, Step, follow, perform};
 use models::{Model, Stamped, Standard};
-use run::{Call, Run};
+use run::Run;
 use std::process::Abort;
 use values::Setpoint;
 
@@ -9,18 +10,18 @@ const NONE: Option<u16> = None;
 // Four controllers under carried: the upset arrives after its new host has sent, so whoever was seated before may forge.
 #[test]
 fn a_phase_goes_round_by_round(rt: HostRuntime) {
-    let calls = [
-        open(4, 1, &[500, 500, 500, 610], 1 << 1),
-        seat(1 << 3),
-        forge(1, 0, 0, Some(500)),
-        forge(1, 2, 0, Some(610)),
-        forge(1, 2, 0, Some(500)), // a later cell replaces an earlier one
-        Call::Close,
-        seat(1 << 3),
-        forge(3, 0, 0, Some(610)),
-        Call::Close,
-        seat(1 << 1),
-        Call::Close,
+    const CALLS: &[Step] = &[
+        Open(4, 1, &[500, 500, 500, 610], 1 << 1),
+        Seat(1 << 3),
+        Forge(1, 0, 0, Some(500)),
+        Forge(1, 2, 0, Some(610)),
+        Forge(1, 2, 0, Some(500)), // a later cell replaces an earlier one
+        Close,
+        Seat(1 << 3),
+        Forge(3, 0, 0, Some(610)),
+        Close,
+        Seat(1 << 1),
+        Close,
     ];
     let high = Some(500);
     // how many calls, and v then
@@ -30,15 +31,15 @@ fn a_phase_goes_round_by_round(rt: HostRuntime) {
         (9, [high, None, high, None]),
         (11, [high, None, high, high]),
     ];
-    for (made, v) in stages {
+    for (made, v) in &stages {
         let mut cells = [None; 116];
         {
             let mut run = Run::<Setpoint>::new(&mut cells);
-            perform(&rt, &mut run, &Standard::Carried, &calls[..made]);
+            perform(&rt, &mut run, &Standard::Carried, &CALLS[..*made]);
         }
         assert_eq!(rt; &cells[80..84], v.as_slice(), "after {made} calls");
         // 3 was seated in the collecting round
-        let known = made >= 9;
+        let known = *made >= 9;
         let row = [high, None, high, Some(610)];
         let row = if known { row } else { [NONE; 4] };
         assert_eq!(rt; &cells[64..68], row.as_slice(), "after {made} calls");
@@ -53,21 +54,21 @@ fn a_uniform_sender_tells_all_the_same(rt: HostRuntime) {
     {
         let model = Standard::Unaware;
         let mut run = Run::<Setpoint>::new(&mut cells);
-        let steps = [
-            (open(6, 1, &[500; 6], 0), DONE),
-            (seat(1 << 1), DONE),
-            (Call::Close, DONE),
-            (seat(1 << 2), DONE),
-            (forge(1, 0, 0, Some(610)), DONE),
-            (forge(2, 0, 0, Some(620)), DONE),
-            (forge(0, 0, 0, Some(630)), Err(10)),
-            (forge(2, 3, 0, Some(630)), DONE),
-            (seat(0), Err(8)),
-            (forge(2, 4, 0, Some(640)), DONE),
-            (forge(2, 3, 0, None), DONE),
-            (Call::Close, DONE),
+        const STEPS: &[(Step, Outcome)] = &[
+            (Open(6, 1, &[500; 6], 0), DONE),
+            (Seat(1 << 1), DONE),
+            (Close, DONE),
+            (Seat(1 << 2), DONE),
+            (Forge(1, 0, 0, Some(610)), DONE),
+            (Forge(2, 0, 0, Some(620)), DONE),
+            (Forge(0, 0, 0, Some(630)), Err(10)),
+            (Forge(2, 3, 0, Some(630)), DONE),
+            (Seat(0), Err(8)),
+            (Forge(2, 4, 0, Some(640)), DONE),
+            (Forge(2, 3, 0, None), DONE),
+            (Close, DONE),
         ];
-        follow(&rt, &mut run, &model, &steps);
+        follow(&rt, &mut run, &model, STEPS);
     }
     let told = [Some(620), None, None, None, Some(640), None];
     let same = Some(500);
@@ -91,16 +92,16 @@ fn coordinator_tells<M: Model>(
     {
         let mut run = Run::<Setpoint>::new(&mut cells);
         let calls = [
-            open(4, 1, &[500, 610, 500, 610], 0),
-            seat(0),
-            Call::Close,
-            seat(1 << 0),
-            Call::Close,
-            seat(0),
-            forge(0, receiver, 0, Some(row[0])),
-            forge(0, receiver, 1, Some(row[1])),
-            forge(0, receiver, 2, Some(row[2])),
-            Call::Close,
+            Open(4, 1, &[500, 610, 500, 610], 0),
+            Seat(0),
+            Close,
+            Seat(1 << 0),
+            Close,
+            Seat(0),
+            Forge(0, receiver, 0, Some(row[0])),
+            Forge(0, receiver, 1, Some(row[1])),
+            Forge(0, receiver, 2, Some(row[2])),
+            Close,
         ];
         perform(rt, &mut run, model, &calls);
     }
@@ -121,16 +122,16 @@ fn the_counts_are_those_of_the_model_at_open(rt: HostRuntime) {
     let mut cells = [None; 116];
     {
         let mut run = Run::<Setpoint>::new(&mut cells);
-        let steps = [(open(4, 1, &[500, 500, 610, 610], 1 << 2), DONE)];
-        follow(&rt, &mut run, &Standard::Carried, &steps);
-        follow(&rt, &mut run, &Standard::Fixed, &[(seat(1 << 1), Err(7))]);
+        const OPENS: &[(Step, Outcome)] = &[(Open(4, 1, &[500, 500, 610, 610], 1 << 2), DONE)];
+        follow(&rt, &mut run, &Standard::Carried, OPENS);
+        follow(&rt, &mut run, &Standard::Fixed, &[(Seat(1 << 1), Err(7))]);
         // the model at seat gives moves and classes: 2 was left, and is silent under aware
-        let steps = [
-            (seat(0), DONE),
-            (forge(2, 0, 0, Some(500)), Err(10)),
-            (Call::Close, DONE),
+        const STEPS: &[(Step, Outcome)] = &[
+            (Seat(0), DONE),
+            (Forge(2, 0, 0, Some(500)), Err(10)),
+            (Close, DONE),
         ];
-        follow(&rt, &mut run, &Standard::Aware, &steps);
+        follow(&rt, &mut run, &Standard::Aware, STEPS);
     }
     assert_eq!(rt; &cells[80..84], [NONE; 4].as_slice());
 }

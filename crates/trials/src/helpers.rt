@@ -1,5 +1,8 @@
 //! What several tests make or read.
-use models::{Counts, Model, Moved, Set};
+//!
+//! A test is proved before it runs, and each call and assertion that is written in it makes that proof longer. So what a test
+//! tries stands in a table, in a constant where it can, and a loop asserts all rows.
+use models::{Model, Moved, Set};
 use run::{Answer, Call, Opening, Place, Run};
 use std::process::Abort;
 use values::{Cell, Kind, Quorum, Setpoint, Shares};
@@ -21,10 +24,6 @@ pub fn from_to(before: u16, after: u16, t: usize) -> Moved {
     }
 }
 
-pub fn bel(b: usize, e: usize, l: usize) -> Counts {
-    Counts { b, e, l }
-}
-
 pub fn quorum(at_least: usize, otherwise_at_most: usize) -> Quorum {
     Quorum {
         at_least,
@@ -37,30 +36,41 @@ pub fn read_row<K: Kind>(bytes: &[u8]) -> Result<K::Row, u8> {
     K::read(bytes).map(|value| value.row()).map_err(u8::from)
 }
 
-pub fn open(n: usize, t: usize, proposals: &[u16], initial: u16) -> Call<u16> {
-    Call::Open(Opening {
-        n,
-        t,
-        proposals,
-        initial: Set(initial),
-    })
+/// A call on a run of setpoints, short enough for a row of a table.
+#[derive(Clone, Copy)]
+pub enum Step<'c> {
+    /// n, t, the proposals and the initial set.
+    Open(usize, usize, &'c [u16], u16),
+    /// The set.
+    Seat(u16),
+    /// The sender, the receiver, the column and the cell.
+    Forge(usize, usize, usize, Cell<u16>),
+    /// Nothing more.
+    Close,
+    /// The controller.
+    Decision(usize),
 }
 
-pub fn seat(set: u16) -> Call<'static, u16> {
-    Call::Seat(Set(set))
-}
-
-pub fn forge(sender: usize, receiver: usize, column: usize, cell: Cell<u16>) -> Call<'static, u16> {
-    let place = Place {
-        sender,
-        receiver,
-        column,
-    };
-    Call::Forge(place, cell)
-}
-
-pub fn decision(controller: usize) -> Call<'static, u16> {
-    Call::Decision(controller)
+pub fn call_of(step: Step) -> Call<u16> {
+    match step {
+        Step::Open(n, t, proposals, initial) => Call::Open(Opening {
+            n,
+            t,
+            proposals,
+            initial: Set(initial),
+        }),
+        Step::Seat(set) => Call::Seat(Set(set)),
+        Step::Forge(sender, receiver, column, cell) => Call::Forge(
+            Place {
+                sender,
+                receiver,
+                column,
+            },
+            cell,
+        ),
+        Step::Close => Call::Close,
+        Step::Decision(controller) => Call::Decision(controller),
+    }
 }
 
 /// What a run of setpoints answers to a call, or the number of the refusal.
@@ -68,13 +78,9 @@ pub type Outcome = Result<Answer<u16>, u8>;
 
 pub const DONE: Outcome = Ok(Answer::Done);
 
-pub fn decided(cell: Cell<u16>) -> Outcome {
-    Ok(Answer::Decided(cell))
-}
-
 // By the method of each call, where `play` goes through `perform`.
-pub fn ask<M: Model>(run: &mut Run<Setpoint>, model: &M, call: Call<u16>) -> Outcome {
-    let outcome = match call {
+pub fn ask<M: Model>(run: &mut Run<Setpoint>, model: &M, step: Step) -> Outcome {
+    let outcome = match call_of(step) {
         Call::Open(opening) => run.open(model, opening).map(|()| Answer::Done),
         Call::Seat(set) => run.seat(model, set).map(|()| Answer::Done),
         Call::Forge(place, cell) => run.forge(place, cell).map(|()| Answer::Done),
@@ -89,16 +95,16 @@ pub fn follow<M: Model>(
     rt: &impl Abort,
     run: &mut Run<Setpoint>,
     model: &M,
-    steps: &[(Call<u16>, Outcome)],
+    steps: &[(Step, Outcome)],
 ) {
-    for (at, (call, outcome)) in steps.iter().enumerate() {
-        assert_eq!(rt; ask(run, model, *call), *outcome, "at step {at}");
+    for (at, (step, outcome)) in steps.iter().enumerate() {
+        assert_eq!(rt; ask(run, model, *step), *outcome, "at step {at}");
     }
 }
 
 /// Makes the calls, none of which is refused.
-pub fn perform<M: Model>(rt: &impl Abort, run: &mut Run<Setpoint>, model: &M, calls: &[Call<u16>]) {
-    for (at, call) in calls.iter().enumerate() {
-        assert_eq!(rt; ask(run, model, *call), DONE, "at call {at}");
+pub fn perform<M: Model>(rt: &impl Abort, run: &mut Run<Setpoint>, model: &M, steps: &[Step]) {
+    for (at, step) in steps.iter().enumerate() {
+        assert_eq!(rt; ask(run, model, *step), DONE, "at step {at}");
     }
 }

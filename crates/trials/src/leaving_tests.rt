@@ -4,18 +4,28 @@ use models::{Class, Model, Set, Standard};
 
 #[test]
 fn a_strangers_model_lets_faults_leave_only(rt: HostRuntime) {
-    assert!(rt; Leaving.allows(from_to(0b111, 0b101, 3)));
-    assert!(rt; Leaving.allows(from_to(0b111, 0, 3)));
-    assert!(rt; !Leaving.allows(from_to(0b101, 0b110, 3)));
-    assert_eq!(rt; Leaving.class(from_to(0b11, 0b01, 2), 0), Class::Free);
-    assert_eq!(rt; Leaving.class(from_to(0b11, 0b01, 2), 1), Class::Silent);
-    assert_eq!(rt; Leaving.class(from_to(0b11, 0b01, 2), 2), Class::Honest);
+    let moves = [
+        (0b111, 0b101, true),
+        (0b111, 0, true),
+        (0b101, 0b110, false),
+    ];
+    for (before, after, allowed) in &moves {
+        let allows = Leaving.allows(from_to(*before, *after, 3));
+        assert!(rt; allows == *allowed, "{before} to {after}");
+    }
+    for (controller, class) in &[(0, Class::Free), (1, Class::Silent), (2, Class::Honest)] {
+        assert_eq!(rt; Leaving.class(from_to(0b11, 0b01, 2), *controller), *class);
+    }
 }
 
 #[test]
 fn under_a_lawful_model_a_set_may_stay(rt: HostRuntime) {
-    assert!(rt; may_stay(&Leaving, Set(0b110), 2));
-    assert!(rt; may_stay_stamped(Leaving, Set(0b110), 2));
-    assert!(rt; may_stay(&Standard::Fixed, Set(0b110), 2));
-    assert!(rt; may_stay_stamped(Standard::Fixed, Set(0b110), 2));
+    let set = Set(0b110);
+    let answers = [
+        may_stay(&Leaving, set, 2),
+        may_stay_stamped(Leaving, set, 2),
+        may_stay(&Standard::Fixed, set, 2),
+        may_stay_stamped(Standard::Fixed, set, 2),
+    ];
+    assert_eq!(rt; answers, [true; 4]);
 }

@@ -2,7 +2,7 @@ use values::Refusal;
 
 #[test]
 fn refusals_have_their_numbers(rt: HostRuntime) {
-    let refusals: [(Refusal, u8); 13] = [
+    const REFUSALS: &[(Refusal, u8)] = &[
         (Refusal::BlockSize, 1),
         (Refusal::FaultCount, 2),
         (Refusal::Resilience, 3),
@@ -17,7 +17,7 @@ fn refusals_have_their_numbers(rt: HostRuntime) {
         (Refusal::WasSeated, 12),
         (Refusal::Value, 24),
     ];
-    for (refusal, number) in refusals {
-        assert_eq!(rt; u8::from(refusal), number);
+    for (refusal, number) in REFUSALS {
+        assert_eq!(rt; u8::from(*refusal), *number);
     }
 }

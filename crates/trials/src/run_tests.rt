@@ -1,6 +1,8 @@
-use crate::helpers::{DONE, Outcome, ask, decided, decision, follow, forge, open, perform, seat};
+use crate::helpers::Step::{Close, Decision, Forge, Open, Seat};
+use crate::helpers::{DONE, Outcome, Step, ask, follow, perform};
 use models::{Model, Stamped, Standard};
-use run::{Call, Run};
+use run::Answer::Decided;
+use run::Run;
 use std::process::Abort;
 use values::{Kind, Setpoint};
 
@@ -9,20 +11,35 @@ const NONE: Option<u16> = None;
 fn opens<M: Model>(model: &M, proposals: &[u16]) -> Outcome {
     let mut cells = [None; 318];
     let mut run = Run::<Setpoint>::new(&mut cells);
-    ask(&mut run, model, open(proposals.len(), 1, proposals, 0))
+    ask(&mut run, model, Open(proposals.len(), 1, proposals, 0))
 }
 
 #[test]
 fn a_block_needs_more_than_b_and_e_and_l(rt: HostRuntime) {
-    let unaware = Standard::Unaware;
-    assert_eq!(rt; opens(&unaware, &[500; 5]), Err(3));
-    assert_eq!(rt; opens(&unaware, &[500; 6]), DONE);
-    let aware = Stamped(Standard::Aware);
-    assert_eq!(rt; opens(&aware, &[500; 3]), Err(3));
-    assert_eq!(rt; opens(&aware, &[500; 4]), DONE);
-    let carried = Stamped(Standard::Carried);
-    assert_eq!(rt; opens(&carried, &[500; 2]), Err(3));
-    assert_eq!(rt; opens(&carried, &[500; 3]), DONE);
+    let all = [500; 6];
+    for (n, outcome) in &[(5, Err(3)), (6, DONE)] {
+        assert_eq!(rt;
+            opens(&Standard::Unaware, &all[..*n]),
+            *outcome,
+            "{n} under unaware"
+        );
+    }
+    for (n, outcome) in &[(3, Err(3)), (4, DONE)] {
+        let aware = Stamped(Standard::Aware);
+        assert_eq!(rt;
+            opens(&aware, &all[..*n]),
+            *outcome,
+            "{n} under stamped aware"
+        );
+    }
+    for (n, outcome) in &[(2, Err(3)), (3, DONE)] {
+        let carried = Stamped(Standard::Carried);
+        assert_eq!(rt;
+            opens(&carried, &all[..*n]),
+            *outcome,
+            "{n} under stamped carried"
+        );
+    }
 }
 
 // What five controllers under aware hold after the first round.
@@ -30,13 +47,13 @@ fn proposed(
     rt: &impl Abort,
     proposals: &[u16; 5],
     initial: u16,
-    round: &[Call<u16>],
+    round: &[Step],
 ) -> [Option<u16>; 5] {
     let mut cells = [None; 200];
     {
         let model = Standard::Aware;
         let mut run = Run::<Setpoint>::new(&mut cells);
-        perform(rt, &mut run, &model, &[open(5, 1, proposals, initial)]);
+        perform(rt, &mut run, &model, &[Open(5, 1, proposals, initial)]);
         perform(rt, &mut run, &model, round);
     }
     [cells[150], cells[151], cells[152], cells[153], cells[154]]
@@ -45,22 +62,22 @@ fn proposed(
 // Three cells are needed, and at most one may be filled otherwise.
 #[test]
 fn a_proposal_needs_enough_cells_and_few_otherwise(rt: HostRuntime) {
-    let nobody = [seat(0), Call::Close];
+    const NOBODY: &[Step] = &[Seat(0), Close];
     // 3 was left, and is silent: all hear 500, 500, 500, -, 610
-    let heard = proposed(&rt, &[500, 500, 500, 700, 610], 1 << 3, &nobody);
+    let heard = proposed(&rt, &[500, 500, 500, 700, 610], 1 << 3, NOBODY);
     assert_eq!(rt; heard, [Some(500); 5]);
     // two are filled otherwise
-    let heard = proposed(&rt, &[500, 500, 500, 610, 610], 0, &nobody);
+    let heard = proposed(&rt, &[500, 500, 500, 610, 610], 0, NOBODY);
     assert_eq!(rt; heard, [NONE; 5]);
     // 2 is seated: 0 hears 500, 500, 500, -, 610 and 1 hears 500, 500, 610, -, 610; the others hear 500 twice only
-    let round = [
-        seat(1 << 2),
-        forge(2, 0, 0, Some(500)),
-        forge(2, 1, 0, Some(610)),
-        forge(2, 2, 0, Some(500)),
-        Call::Close,
+    const ROUND: &[Step] = &[
+        Seat(1 << 2),
+        Forge(2, 0, 0, Some(500)),
+        Forge(2, 1, 0, Some(610)),
+        Forge(2, 2, 0, Some(500)),
+        Close,
     ];
-    let heard = proposed(&rt, &[500, 500, 500, 500, 610], 1 << 3, &round);
+    let heard = proposed(&rt, &[500, 500, 500, 500, 610], 1 << 3, ROUND);
     assert_eq!(rt; heard, [Some(500), None, None, None, None]);
 }
 
@@ -70,8 +87,8 @@ fn a_proposal_that_breaks_the_rule_counts_as_the_fallback(rt: HostRuntime) {
     let mut cells = [None; 60];
     {
         let mut run = Run::<Setpoint>::new(&mut cells);
-        let calls = [open(3, 0, &[905, 400, 0], 0), seat(0), Call::Close];
-        perform(&rt, &mut run, &Standard::Aware, &calls);
+        const CALLS: &[Step] = &[Open(3, 0, &[905, 400, 0], 0), Seat(0), Close];
+        perform(&rt, &mut run, &Standard::Aware, CALLS);
     }
     for place in 36..39 {
         let value = cells[place].map(|row| Setpoint::value(&row).tenths());
@@ -87,24 +104,24 @@ fn four_candidates_decide(rt: HostRuntime) {
         let model = Standard::Unaware;
         let mut run = Run::<Setpoint>::new(&mut cells);
         // 4 and 5 tell nothing in the collecting round, so columns 4 and 5 are empty
-        let rounds = [
-            open(6, 1, &[500; 6], 0),
-            seat(1 << 4),
-            Call::Close,
-            seat(1 << 5),
-            Call::Close,
-            seat(1 << 0),
+        const ROUNDS: &[Step] = &[
+            Open(6, 1, &[500; 6], 0),
+            Seat(1 << 4),
+            Close,
+            Seat(1 << 5),
+            Close,
+            Seat(1 << 0),
         ];
-        perform(&rt, &mut run, &model, &rounds);
+        perform(&rt, &mut run, &model, ROUNDS);
         for receiver in 0..6 {
             // the coordinator's row has two cells only
             let row = [
-                forge(0, receiver, 0, Some(500)),
-                forge(0, receiver, 1, Some(500)),
+                Forge(0, receiver, 0, Some(500)),
+                Forge(0, receiver, 1, Some(500)),
             ];
             perform(&rt, &mut run, &model, &row);
         }
-        perform(&rt, &mut run, &model, &[Call::Close]);
+        perform(&rt, &mut run, &model, &[Close]);
     }
     // 5 was seated in the collecting round, and 0 is in the deciding one
     let same = Some(500);
@@ -125,38 +142,38 @@ fn three_candidates(rt: &impl Abort, told: [usize; 3]) -> [Option<u16>; 6] {
     {
         let model = Standard::Unaware;
         let mut run = Run::<Setpoint>::new(&mut cells);
-        let begin = [
-            open(6, 1, &[500, 500, 500, 610, 610, 610], 0),
-            seat(0),
-            Call::Close,
-            seat(0),
-            Call::Close,
-            seat(1),
+        const BEGIN: &[Step] = &[
+            Open(6, 1, &[500, 500, 500, 610, 610, 610], 0),
+            Seat(0),
+            Close,
+            Seat(0),
+            Close,
+            Seat(1),
         ];
-        perform(rt, &mut run, &model, &begin);
+        perform(rt, &mut run, &model, BEGIN);
         for receiver in 1..4 {
-            for (column, value) in [610, 500, 500, 610, 610, 500].into_iter().enumerate() {
+            for (column, value) in [610, 500, 500, 610, 610, 500].iter().enumerate() {
                 perform(
                     rt,
                     &mut run,
                     &model,
-                    &[forge(0, receiver, column, Some(value))],
+                    &[Forge(0, receiver, column, Some(*value))],
                 );
             }
         }
-        let proposing = [
-            Call::Close,
-            seat(1),
-            forge(0, 1, 0, Some(610)),
-            forge(0, 2, 0, Some(610)),
-            Call::Close,
-            seat(1),
+        const PROPOSING: &[Step] = &[
+            Close,
+            Seat(1),
+            Forge(0, 1, 0, Some(610)),
+            Forge(0, 2, 0, Some(610)),
+            Close,
+            Seat(1),
         ];
-        perform(rt, &mut run, &model, &proposing);
+        perform(rt, &mut run, &model, PROPOSING);
         for receiver in told {
-            perform(rt, &mut run, &model, &[forge(0, receiver, 0, Some(610))]);
+            perform(rt, &mut run, &model, &[Forge(0, receiver, 0, Some(610))]);
         }
-        perform(rt, &mut run, &model, &[Call::Close, seat(1), Call::Close]);
+        perform(rt, &mut run, &model, &[Close, Seat(1), Close]);
     }
     [
         cells[252], cells[253], cells[254], cells[255], cells[256], cells[257],
@@ -186,36 +203,36 @@ fn a_decision_is_kept_while_four_hold_it(rt: HostRuntime) {
         &rt,
         &mut run,
         &model,
-        &[open(6, 1, &[500, 500, 500, 610, 610, 610], 0)],
+        &[Open(6, 1, &[500, 500, 500, 610, 610, 610], 0)],
     );
     for phase in 0..6 {
         let set = 1 << phase;
-        let begin = [seat(set), Call::Close, seat(set), Call::Close, seat(set)];
+        let begin = [Seat(set), Close, Seat(set), Close, Seat(set)];
         perform(&rt, &mut run, &model, &begin);
-        for (away, value) in [500, 500, 500, 610, 610].into_iter().enumerate() {
+        for (away, value) in [500, 500, 500, 610, 610].iter().enumerate() {
             let receiver = (phase + 1 + away) % 6;
-            let row = [0, 1, 2].map(|column| forge(phase, receiver, column, Some(value)));
+            let row = [0, 1, 2].map(|column| Forge(phase, receiver, column, Some(*value)));
             perform(&rt, &mut run, &model, &row);
         }
-        perform(&rt, &mut run, &model, &[Call::Close]);
+        perform(&rt, &mut run, &model, &[Close]);
     }
-    let steps = [
-        (decision(0), decided(Some(500))),
-        (decision(1), decided(Some(500))),
-        (decision(2), decided(Some(500))),
-        (decision(3), decided(Some(610))),
-        (decision(4), decided(Some(610))),
-        (decision(5), Err(12)),
-        (seat(1 << 5), DONE),
-        (forge(5, 0, 0, Some(500)), DONE), // 0 hears 500 four times
-        (forge(5, 1, 0, Some(610)), DONE), // 1 hears both three times
-        (Call::Close, DONE),
-        (decision(0), decided(Some(500))),
-        (decision(1), decided(None)),
-        (decision(2), decided(None)),
-        (decision(5), Err(12)),
+    const STEPS: &[(Step, Outcome)] = &[
+        (Decision(0), Ok(Decided(Some(500)))),
+        (Decision(1), Ok(Decided(Some(500)))),
+        (Decision(2), Ok(Decided(Some(500)))),
+        (Decision(3), Ok(Decided(Some(610)))),
+        (Decision(4), Ok(Decided(Some(610)))),
+        (Decision(5), Err(12)),
+        (Seat(1 << 5), DONE),
+        (Forge(5, 0, 0, Some(500)), DONE), // 0 hears 500 four times
+        (Forge(5, 1, 0, Some(610)), DONE), // 1 hears both three times
+        (Close, DONE),
+        (Decision(0), Ok(Decided(Some(500)))),
+        (Decision(1), Ok(Decided(None))),
+        (Decision(2), Ok(Decided(None))),
+        (Decision(5), Err(12)),
     ];
-    follow(&rt, &mut run, &model, &steps);
+    follow(&rt, &mut run, &model, STEPS);
 }
 
 #[test]
@@ -227,22 +244,22 @@ fn a_block_of_one_decides_after_three_rounds(rt: HostRuntime) {
         Standard::Carried,
         Standard::Fixed,
     ];
-    for model in models {
+    for model in &models {
         let mut cells = [None; 8];
         let mut run = Run::<Setpoint>::new(&mut cells);
-        let steps = [
-            (open(1, 0, &[500], 0), DONE),
-            (seat(0), DONE),
-            (Call::Close, DONE),
-            (seat(0), DONE),
-            (Call::Close, DONE),
-            (decision(0), decided(None)),
-            (seat(0), DONE),
-            (decision(0), decided(None)),
-            (Call::Close, DONE),
-            (decision(0), decided(Some(500))),
+        const STEPS: &[(Step, Outcome)] = &[
+            (Open(1, 0, &[500], 0), DONE),
+            (Seat(0), DONE),
+            (Close, DONE),
+            (Seat(0), DONE),
+            (Close, DONE),
+            (Decision(0), Ok(Decided(None))),
+            (Seat(0), DONE),
+            (Decision(0), Ok(Decided(None))),
+            (Close, DONE),
+            (Decision(0), Ok(Decided(Some(500)))),
         ];
-        follow(&rt, &mut run, &model, &steps);
+        follow(&rt, &mut run, model, STEPS);
     }
 }
 
@@ -251,16 +268,16 @@ fn two_that_differ_decide_on_the_fallback(rt: HostRuntime) {
     let model = Standard::Aware;
     let mut cells = [None; 26];
     let mut run = Run::<Setpoint>::new(&mut cells);
-    perform(&rt, &mut run, &model, &[open(2, 0, &[500, 600], 0)]);
+    perform(&rt, &mut run, &model, &[Open(2, 0, &[500, 600], 0)]);
     for _ in 0..5 {
-        perform(&rt, &mut run, &model, &[seat(0), Call::Close]);
+        perform(&rt, &mut run, &model, &[Seat(0), Close]);
     }
-    let steps = [
-        (decision(0), decided(None)),
-        (seat(0), DONE),
-        (Call::Close, DONE),
-        (decision(0), decided(Some(400))),
-        (decision(1), decided(Some(400))),
+    const STEPS: &[(Step, Outcome)] = &[
+        (Decision(0), Ok(Decided(None))),
+        (Seat(0), DONE),
+        (Close, DONE),
+        (Decision(0), Ok(Decided(Some(400)))),
+        (Decision(1), Ok(Decided(Some(400)))),
     ];
-    follow(&rt, &mut run, &model, &steps);
+    follow(&rt, &mut run, &model, STEPS);
 }

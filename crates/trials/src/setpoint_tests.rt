@@ -3,27 +3,37 @@ use values::{Buffer, Kind, Setpoint};
 
 #[test]
 fn range_is_200_to_900(rt: HostRuntime) {
-    assert_eq!(rt; read_row::<Setpoint>(&[199, 0]), Err(24));
-    assert_eq!(rt; read_row::<Setpoint>(&[200, 0]), Ok(200));
-    assert_eq!(rt; read_row::<Setpoint>(&[132, 3]), Ok(900));
-    assert_eq!(rt; read_row::<Setpoint>(&[133, 3]), Err(24));
+    let ends = [
+        ([199, 0], Err(24)),
+        ([200, 0], Ok(200)),
+        ([132, 3], Ok(900)),
+        ([133, 3], Err(24)),
+    ];
+    for (bytes, row) in &ends {
+        assert_eq!(rt; read_row::<Setpoint>(bytes), *row, "of {bytes:?}");
+    }
 }
 
 #[test]
 fn two_bytes_are_read_low_byte_first(rt: HostRuntime) {
-    assert_eq!(rt; read_row::<Setpoint>(&[0xf4, 0x01]), Ok(500));
-    assert_eq!(rt; read_row::<Setpoint>(&[0x01, 0xf4]), Err(24));
-    assert_eq!(rt; read_row::<Setpoint>(&[]), Err(24));
-    assert_eq!(rt; read_row::<Setpoint>(&[0xf4]), Err(24));
-    assert_eq!(rt; read_row::<Setpoint>(&[0xf4, 0x01, 0x00]), Err(24));
+    const READ: &[(&[u8], Result<u16, u8>)] = &[
+        (&[0xf4, 0x01], Ok(500)),
+        (&[0x01, 0xf4], Err(24)),
+        (&[], Err(24)),
+        (&[0xf4], Err(24)),
+        (&[0xf4, 0x01, 0x00], Err(24)),
+    ];
+    for (bytes, row) in READ {
+        assert_eq!(rt; read_row::<Setpoint>(bytes), *row, "of {bytes:?}");
+    }
 }
 
 #[test]
 fn a_row_out_of_range_stands_for_the_fallback(rt: HostRuntime) {
     assert_eq!(rt; Setpoint::fallback().tenths(), 400);
-    assert_eq!(rt; Setpoint::value(&199).tenths(), 400);
-    assert_eq!(rt; Setpoint::value(&65535).tenths(), 400);
-    assert_eq!(rt; Setpoint::value(&900).tenths(), 900);
+    for (row, tenths) in &[(199, 400), (65535, 400), (900, 900)] {
+        assert_eq!(rt; Setpoint::value(row).tenths(), *tenths, "of {row}");
+    }
     assert_eq!(rt; Setpoint::value(&900).row(), 900);
 }
 

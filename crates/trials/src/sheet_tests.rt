@@ -3,38 +3,40 @@ use values::{Buffer, Kind, Sheet};
 
 #[test]
 fn shares_total_at_most_1000(rt: HostRuntime) {
-    assert_eq!(rt;
-        read_row::<Sheet>(&[0x90, 1, 0x2c, 1, 200, 0, 100, 0]),
-        Ok(shares(400, 300, 200, 100))
-    );
-    assert_eq!(rt;
-        read_row::<Sheet>(&[0x90, 1, 0x2c, 1, 200, 0, 101, 0]),
-        Err(24)
-    );
-    assert_eq!(rt;
-        read_row::<Sheet>(&[0x2c, 1, 0x2c, 1, 200, 0, 100, 0]),
-        Ok(shares(300, 300, 200, 100))
-    );
-    assert!(rt; Sheet::checked(&shares(1000, 0, 0, 0)).is_some());
-    assert!(rt; Sheet::checked(&shares(1000, 0, 0, 1)).is_none());
+    let read = [
+        (
+            [0x90, 1, 0x2c, 1, 200, 0, 100, 0],
+            Ok(shares(400, 300, 200, 100)),
+        ),
+        ([0x90, 1, 0x2c, 1, 200, 0, 101, 0], Err(24)),
+        (
+            [0x2c, 1, 0x2c, 1, 200, 0, 100, 0],
+            Ok(shares(300, 300, 200, 100)),
+        ),
+    ];
+    for (bytes, row) in &read {
+        assert_eq!(rt; read_row::<Sheet>(bytes), *row, "of {bytes:?}");
+    }
+    for (last, lawful) in &[(0, true), (1, false)] {
+        assert!(rt; Sheet::checked(&shares(1000, 0, 0, *last)).is_some() == *lawful);
+    }
 }
 
 #[test]
 fn the_total_does_not_wrap(rt: HostRuntime) {
     assert_eq!(rt; read_row::<Sheet>(&[0xff, 0xff, 1, 0, 0, 0, 0, 0]), Err(24));
-    assert!(rt; Sheet::checked(&shares(65535, 1, 0, 0)).is_none());
-    assert!(rt; Sheet::checked(&shares(65535, 65535, 65535, 65535)).is_none());
+    for row in &[shares(65535, 1, 0, 0), shares(65535, 65535, 65535, 65535)] {
+        assert!(rt; Sheet::checked(row).is_none());
+    }
 }
 
 #[test]
 fn eight_bytes_are_read(rt: HostRuntime) {
-    assert_eq!(rt; read_row::<Sheet>(&[]), Err(24));
-    assert_eq!(rt; read_row::<Sheet>(&[0, 0, 0, 0, 0, 0, 0]), Err(24));
-    assert_eq!(rt;
-        read_row::<Sheet>(&[0, 0, 0, 0, 0, 0, 0, 0]),
-        Ok(shares(0, 0, 0, 0))
-    );
-    assert_eq!(rt; read_row::<Sheet>(&[0, 0, 0, 0, 0, 0, 0, 0, 0]), Err(24));
+    let zeros = [0; 9];
+    let none = shares(0, 0, 0, 0);
+    for (len, row) in &[(0, Err(24)), (7, Err(24)), (8, Ok(none)), (9, Err(24))] {
+        assert_eq!(rt; read_row::<Sheet>(&zeros[..*len]), *row, "of {len} bytes");
+    }
     assert_eq!(rt; Sheet::WIDTH, 8);
 }
 

@@ -1,63 +1,65 @@
-use crate::helpers::{DONE, Outcome, ask, decided, decision, follow, forge, open, perform, seat};
+use crate::helpers::Step::{Close, Decision, Forge, Open, Seat};
+use crate::helpers::{DONE, Outcome, Step, ask, follow, perform};
 use models::Standard;
-use run::{Call, Run};
+use run::Answer::Decided;
+use run::Run;
 use std::process::Abort;
 use values::Setpoint;
 
 const OLD: Option<u16> = Some(777);
 
-fn bother(rt: &impl Abort, run: &mut Run<Setpoint>, refused: &[(Call<u16>, u8)]) {
-    for (call, number) in refused {
-        follow(rt, run, &Standard::Fixed, &[(*call, Err(*number))]);
+fn bother(rt: &impl Abort, run: &mut Run<Setpoint>, refused: &[(Step, u8)]) {
+    for (step, number) in refused {
+        follow(rt, run, &Standard::Fixed, &[(*step, Err(*number))]);
     }
 }
 
 // Decisions alter nothing, whether they are refused or not.
 fn ask_for_decisions(run: &mut Run<Setpoint>) -> [Outcome; 4] {
     let model = Standard::Fixed;
-    [0, 1, 2, 3].map(|controller| ask(run, &model, decision(controller)))
+    [0, 1, 2, 3].map(|controller| ask(run, &model, Decision(controller)))
 }
 
 fn bother_idle(rt: &impl Abort, run: &mut Run<Setpoint>) {
-    let refused = [
-        (open(0, 0, &[], 0), 1),
-        (open(4, 4, &[600; 4], 0), 2),
-        (open(3, 1, &[600; 3], 0), 3),
-        (open(5, 1, &[600; 5], 0), 4),
-        (open(4, 1, &[600; 3], 0), 5),
-        (open(4, 1, &[600; 4], 0b11), 6),
-        (seat(0), 8),
-        (forge(0, 0, 0, Some(600)), 8),
-        (Call::Close, 8),
-        (decision(0), 8),
+    const REFUSED: &[(Step, u8)] = &[
+        (Open(0, 0, &[], 0), 1),
+        (Open(4, 4, &[600; 4], 0), 2),
+        (Open(3, 1, &[600; 3], 0), 3),
+        (Open(5, 1, &[600; 5], 0), 4),
+        (Open(4, 1, &[600; 3], 0), 5),
+        (Open(4, 1, &[600; 4], 0b11), 6),
+        (Seat(0), 8),
+        (Forge(0, 0, 0, Some(600)), 8),
+        (Close, 8),
+        (Decision(0), 8),
     ];
-    bother(rt, run, &refused);
+    bother(rt, run, REFUSED);
 }
 
 fn bother_waiting(rt: &impl Abort, run: &mut Run<Setpoint>) {
-    let refused = [
-        (open(4, 1, &[600; 4], 0), 8),
-        (seat(0b11), 6),
-        (seat(1 << 3), 7),
-        (forge(2, 0, 0, Some(600)), 8),
-        (Call::Close, 8),
-        (decision(4), 9),
-        (decision(2), 12),
+    const REFUSED: &[(Step, u8)] = &[
+        (Open(4, 1, &[600; 4], 0), 8),
+        (Seat(0b11), 6),
+        (Seat(1 << 3), 7),
+        (Forge(2, 0, 0, Some(600)), 8),
+        (Close, 8),
+        (Decision(4), 9),
+        (Decision(2), 12),
     ];
-    bother(rt, run, &refused);
+    bother(rt, run, REFUSED);
 }
 
 fn bother_seated(rt: &impl Abort, run: &mut Run<Setpoint>) {
-    let refused = [
-        (open(4, 1, &[600; 4], 0), 8),
-        (seat(1 << 2), 8),
-        (forge(2, 4, 0, Some(600)), 9),
-        (forge(2, 0, 4, Some(600)), 9),
-        (forge(0, 0, 0, Some(600)), 10),
-        (decision(4), 9),
-        (decision(2), 12),
+    const REFUSED: &[(Step, u8)] = &[
+        (Open(4, 1, &[600; 4], 0), 8),
+        (Seat(1 << 2), 8),
+        (Forge(2, 4, 0, Some(600)), 9),
+        (Forge(2, 0, 4, Some(600)), 9),
+        (Forge(0, 0, 0, Some(600)), 10),
+        (Decision(4), 9),
+        (Decision(2), 12),
     ];
-    bother(rt, run, &refused);
+    bother(rt, run, REFUSED);
 }
 
 // A whole run of four controllers, of which 2 is always seated and tells each something else; there are refused calls
@@ -72,7 +74,7 @@ fn whole_run(rt: &impl Abort, cells: &mut [Option<u16>], bothered: bool) -> [Out
         rt,
         &mut run,
         &model,
-        &[open(4, 1, &[500, 500, 600, 610], 1 << 2)],
+        &[Open(4, 1, &[500, 500, 600, 610], 1 << 2)],
     );
     for _ in 0..13 {
         if bothered {
@@ -83,18 +85,13 @@ fn whole_run(rt: &impl Abort, cells: &mut [Option<u16>], bothered: bool) -> [Out
             rt,
             &mut run,
             &model,
-            &[seat(1 << 2), forge(2, 0, 0, Some(500))],
+            &[Seat(1 << 2), Forge(2, 0, 0, Some(500))],
         );
         if bothered {
             bother_seated(rt, &mut run);
             let _ = ask_for_decisions(&mut run);
         }
-        perform(
-            rt,
-            &mut run,
-            &model,
-            &[forge(2, 3, 0, Some(610)), Call::Close],
-        );
+        perform(rt, &mut run, &model, &[Forge(2, 3, 0, Some(610)), Close]);
     }
     if bothered {
         bother_waiting(rt, &mut run);
@@ -108,7 +105,7 @@ fn whole_run(rt: &impl Abort, cells: &mut [Option<u16>], bothered: bool) -> [Out
 fn a_refused_call_leaves_all_as_it_was(rt: HostRuntime) {
     let mut cells = [OLD; 120];
     let mut bothered = [OLD; 120];
-    let high = decided(Some(500));
+    let high = Ok(Decided(Some(500)));
     assert_eq!(rt;
         whole_run(&rt, &mut cells, false),
         [high, high, Err(12), high]
@@ -127,12 +124,12 @@ fn nothing_old_is_seen(rt: HostRuntime) {
     let mut cells = [OLD; 116];
     {
         let mut run = Run::<Setpoint>::new(&mut cells);
-        let steps = [
-            (decision(0), Err(8)),
-            (open(4, 1, &[500, 510, 520, 530], 1 << 2), DONE),
-            (decision(0), decided(None)),
+        const STEPS: &[(Step, Outcome)] = &[
+            (Decision(0), Err(8)),
+            (Open(4, 1, &[500, 510, 520, 530], 1 << 2), DONE),
+            (Decision(0), Ok(Decided(None))),
         ];
-        follow(&rt, &mut run, &Standard::Carried, &steps);
+        follow(&rt, &mut run, &Standard::Carried, STEPS);
     }
     // forged cells and rows, v, and decisions
     for place in 0..80 {
@@ -151,14 +148,14 @@ fn a_seat_forgets_what_was_forged(rt: HostRuntime) {
     let mut cells = [OLD; 116];
     {
         let mut run = Run::<Setpoint>::new(&mut cells);
-        let calls = [
-            open(4, 1, &[500; 4], 1 << 2),
-            seat(1 << 2),
-            forge(2, 3, 0, Some(610)),
-            Call::Close,
-            seat(1 << 2),
+        const CALLS: &[Step] = &[
+            Open(4, 1, &[500; 4], 1 << 2),
+            Seat(1 << 2),
+            Forge(2, 3, 0, Some(610)),
+            Close,
+            Seat(1 << 2),
         ];
-        perform(&rt, &mut run, &Standard::Fixed, &calls);
+        perform(&rt, &mut run, &Standard::Fixed, CALLS);
     }
     for place in 0..64 {
         assert_eq!(rt; cells[place], None, "at {place}");

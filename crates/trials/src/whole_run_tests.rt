@@ -1,8 +1,9 @@
 ghost use Rattle.std.specs.Prelude.{◌<◌, ◌≤◌};
 
-use crate::helpers::{DONE, ask, forge, open, perform, seat};
+use crate::helpers::Step::{Close, Forge, Open, Seat};
+use crate::helpers::{DONE, ask, perform};
 use models::{Class, Model, Moved, Set, Stamped, Standard};
-use run::{Call, Run};
+use run::Run;
 use std::process::Abort;
 use values::{Cell, Setpoint};
 
@@ -49,10 +50,10 @@ fn forge_all<M: Model>(
             let outcome = if forgeable { DONE } else { Err(10) };
             for column in 0..columns {
                 let value = 500 + 10 * ((receiver + column + round) % n) as u16;
-                let call = forge(sender, receiver, column, Some(value));
+                let call = Forge(sender, receiver, column, Some(value));
                 assert_eq!(rt; ask(run, model, call), outcome);
             }
-            let past = forge(sender, receiver, columns, None);
+            let past = Forge(sender, receiver, columns, None);
             assert_eq!(rt; ask(run, model, past), Err(9));
         }
     }
@@ -110,16 +111,16 @@ fn whole_run<M: Model>(
     let mut before = Set(1);
     {
         let mut run = Run::<Setpoint>::new(&mut cells);
-        let smaller = open(n - 1, 1, &proposals[..n - 1], 1);
+        let smaller = Open(n - 1, 1, &proposals[..n - 1], 1);
         assert_eq!(rt; ask(&mut run, model, smaller), Err(3));
-        perform(rt, &mut run, model, &[open(n, 1, &proposals[..n], 1)]);
+        perform(rt, &mut run, model, &[Open(n, 1, &proposals[..n], 1)]);
         for round in 0..4 * n {
             let after = if moving { seated_in(n, round) } else { Set(1) };
             let t = 1;
             let moved = Moved { before, after, t };
-            perform(rt, &mut run, model, &[Call::Seat(after)]);
+            perform(rt, &mut run, model, &[Seat(after.0)]);
             forge_all(rt, &mut run, model, n, round, moved);
-            perform(rt, &mut run, model, &[Call::Close]);
+            perform(rt, &mut run, model, &[Close]);
             let cell = common(rt, &mut run, n, after);
             assert_eq!(rt; cell.is_some(), round + 1 >= 3 * n, "round {round}");
             assert_eq!(rt; cell, agreed.or(cell), "round {round}");

@@ -12,13 +12,22 @@ fn a_strangers_kind_is_counted(rt: HostRuntime) {
         Some((0, 60)),
         Some((0, 1441)),
     ];
-    assert_eq!(rt; tally::<Window>(&cells, &(480, 1080)), (3, 1));
-    assert_eq!(rt; tally::<Window>(&cells, &(7, 6)), (3, 1));
-    assert_eq!(rt; tally::<Window>(&cells, &(0, 61)), (0, 4));
-    assert_eq!(rt; winner::<Window>(&cells, quorum(3, 1)), Some(0));
-    assert_eq!(rt; winner::<Window>(&cells, quorum(1, 3)), Some(0));
-    assert_eq!(rt; winner::<Window>(&cells[1..5], quorum(3, 0)), None);
-    assert_eq!(rt; winner::<Window>(&cells, quorum(4, 4)), None);
+    for (row, counts) in &[((480, 1080), (3, 1)), ((7, 6), (3, 1)), ((0, 61), (0, 4))] {
+        assert_eq!(rt; tally::<Window>(&cells, row), *counts, "of {row:?}");
+    }
+    let wins = [
+        (0, 3, 1, Some(0)),
+        (0, 1, 3, Some(0)),
+        (1, 3, 0, None),
+        (0, 4, 4, None),
+    ];
+    for (from, least, most, place) in &wins {
+        assert_eq!(rt;
+            winner::<Window>(&cells[*from..], quorum(*least, *most)),
+            *place,
+            "{least} {most}"
+        );
+    }
 }
 
 #[test]
