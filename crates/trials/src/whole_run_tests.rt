@@ -13,7 +13,6 @@ const OLD: Cell<u16> = Some(777);
 // last, so only the last coordinator is sure to be unseated where it counts.
 fn seated_in(n: usize, round: usize) -> Set
     requires few { 1 < n }
-    requires size { n ≤ 7 }
 {
     let phase = round / 3;
     let controller = match round % 3 {
@@ -23,7 +22,7 @@ fn seated_in(n: usize, round: usize) -> Set
         _ if phase + 1 == n => 1,
         _ => phase,
     };
-    Set(1 << controller)
+    Set(1 << (controller % 16))
 }
 
 // Forges at every place of the round's messages: another cell for each receiver, which only a free sender may tell.
