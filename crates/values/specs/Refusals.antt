@@ -1,5 +1,6 @@
--- The number by which people know each refusal.
-use Rattle.std.specs.Prelude.{ℕ}
+-- The number by which people know each refusal, and what its words are.
+use Rattle.std.specs.Prelude.{◌≡◌, ℕ, ◌<◌, true, List, length, ◌&&◌, nat_le}
+use Rattle.std.specs.List.{list_all}
 use Rattle.values.specs.declared.refusals.Refusal.{Refusal}
 use Rattle.values.specs.declared.refusals.Refusal.TheVariants.{
   BlockSize,
@@ -41,3 +42,8 @@ number_of Layout = 23
 number_of Value = 24
 number_of ForgeryLine = 25
 number_of TextRoom = 26
+
+-- words for people fill part of a line and no more: there are some, all in plain print (32 to 126), so that none ends the line
+pub record IsOneLine (words : List ℕ) : Type 0 where
+  pub some : 0 < length words
+  pub plain : list_all (λ b. nat_le 32 b && nat_le b 126) words ≡ true

@@ -1,5 +1,5 @@
 ghost use Rattle.std.specs.Prelude.{◌≡◌, Some, decimal};
-ghost use Rattle.values.specs.Refusals.{number_of};
+ghost use Rattle.values.specs.Refusals.{number_of, IsOneLine};
 
 use std::error::Error;
 use std::fmt;
@@ -7,15 +7,15 @@ use std::fmt;
 /// Why a call was refused.
 #[derive(Clone, Copy, PartialEq, Eq, Debug)]
 pub enum Refusal {
-    /// A block has no controller, or more than 16.
+    /// The block has no controller, or more than 16.
     BlockSize = 1,
-    /// t is not below n.
+    /// All controllers could be seated at one time: t is not below n.
     FaultCount = 2,
-    /// n is not above b + e + l.
+    /// The block has too few controllers for the model: n is not above b + e + l.
     Resilience = 3,
     /// The store has fewer cells than the block needs.
     StoreSize = 4,
-    /// There are not n proposals.
+    /// There are not n proposals, one for each controller.
     ProposalCount = 5,
     /// A set has a member not below n, or more than t members.
     SetMembers = 6,
@@ -27,22 +27,62 @@ pub enum Refusal {
     NoSuchPlace = 9,
     /// The sender is honest or silent, or is uniform and the receiver is not 0.
     NotForgeable = 10,
-    /// 1,000 rounds are closed.
+    /// 1,000 rounds are closed, and no run has more.
     RoundLimit = 11,
     /// The controller was seated in the last closed round, or is in the initial set and none is closed.
     WasSeated = 12,
-    /// A run file has under 16 or over 65,535 bytes.
+    /// The file has under 16 or over 65,535 bytes.
     FileSize = 21,
-    /// A code in a run file's header has no meaning, or its byte 5 is not 0.
+    /// A code in the header has no meaning, or byte 5 is not 0.
     HeaderCode = 22,
-    /// An offset in a run file's header or its length is not what its counts give.
+    /// An offset in the header, or the file's length, is not what the header's counts give.
     Layout = 23,
     /// A value is out of range, or its bytes are not as many as its width.
     Value = 24,
-    /// A forgery line of a run file is faulty.
+    /// The round of a forgery line is not below R or is out of order, or its tag is above 1, or is 0 with a value.
     ForgeryLine = 25,
     /// The text buffer has under 512 bytes.
     TextRoom = 26,
+}
+
+impl Refusal {
+    /// What the refusal means, for people: a sentence without its capital and its stop, to stand in a line.
+    pub fn meaning(self) -> &'static str
+        ensures { IsOneLine result.now }
+    {
+        match self {
+            Refusal::BlockSize => "the block has no controller, or more than 16",
+            Refusal::FaultCount => "all controllers could be seated at one time: t is not below n",
+            Refusal::Resilience => {
+                "the block has too few controllers for the model: n is not above b + e + l"
+            }
+            Refusal::StoreSize => "the store has fewer cells than the block needs",
+            Refusal::ProposalCount => "there are not n proposals, one for each controller",
+            Refusal::SetMembers => "a set has a member not below n, or more than t members",
+            Refusal::ForbiddenMove => "the model does not allow the move",
+            Refusal::OutOfTurn => "the run does not stand at the turn that the call is for",
+            Refusal::NoSuchPlace => {
+                "a controller is not below n, or the message has no such column"
+            }
+            Refusal::NotForgeable => {
+                "the sender is honest or silent, or is uniform and the receiver is not 0"
+            }
+            Refusal::RoundLimit => "1,000 rounds are closed, and no run has more",
+            Refusal::WasSeated => {
+                "the controller was seated in the last closed round, or is in the initial set and none is closed"
+            }
+            Refusal::FileSize => "the file has under 16 or over 65,535 bytes",
+            Refusal::HeaderCode => "a code in the header has no meaning, or byte 5 is not 0",
+            Refusal::Layout => {
+                "an offset in the header, or the file's length, is not what the header's counts give"
+            }
+            Refusal::Value => "a value is out of range, or its bytes are not as many as its width",
+            Refusal::ForgeryLine => {
+                "the round of a forgery line is not below R or is out of order, or its tag is above 1, or is 0 with a value"
+            }
+            Refusal::TextRoom => "the text buffer has under 512 bytes",
+        }
+    }
 }
 
 // By hand: no derive of std makes a `From`, and the gate refuses an impl by a derive of our own.
