@@ -1,9 +1,8 @@
 -- The law of listings, from the agreement of decisions.
-use Rattle.std.proofs.Common.{◌≡◌, ⊎_elim, ℕ, true, Some, None, Option, Ok, Result, refl, ap, subst, arith, List, [], take, Err, codes, inl, inr}
-use Rattle.std.specs.Prelude.{MatchResult, ⊤}
+use Rattle.std.proofs.Common.{◌≡◌, ⊎_elim, ℕ, true, Some, None, Option, Ok, Result, refl, ap, subst, arith, List, take, Err, codes, inl, inr}
+use Rattle.std.specs.Prelude.{⊤}
 use Rattle.values.specs.declared.buffers.Buffer.{Buffer}
 use Rattle.values.specs.declared.refusals.Refusal.TheVariants.{WasSeated}
-use Rattle.values.specs.Added.{Puts}
 use Rattle.values.specs.Rules.{Rules}
 use Rattle.models.specs.Laws.{Meaning, Lawful}
 use Rattle.protocol.specs.Machine.{State, Idle, Decided, Refused}
@@ -13,9 +12,9 @@ use Rattle.run_file.specs.declared.stops.Stop.{Stop}
 use Rattle.run_file.specs.Files.{laid_out}
 use Rattle.run_file.specs.Headers.{model_of}
 use Rattle.run_file.specs.Votes.{unless_stopped, run_through}
-use Rattle.run_file.specs.Listings.{setting_of, calls_of, outcome, listing, text_and_number}
+use Rattle.run_file.specs.Listings.{setting_of, calls_of, outcome, listing, report_of}
 use Rattle.run_file.specs.Promises.{IsVote}
-use Rattle.run_file.specs.InCode.{IsSound, Fits, IsListed, Becomes}
+use Rattle.run_file.specs.InCode.{IsSound, Fits, IsListedOr, BecomesVote}
 use Rattle.run_file.proofs.Shortness.{listing_short}
 use Rattle.run_file.proofs.Agreeing.{told, one_value, early, valid}
 use Rattle.run_file.proofs.Cutting.{lines_told, cut_told, count_told, line_told}
@@ -58,19 +57,16 @@ starts k m cells h s = refl
 
 -- what becomes of a file that is listed under its model
 module _ (agreement : Agreement) (k : Rules) (cells : ℕ) (h : Header) (bytes : List ℕ) (falls : k.allowed k.fallback ≡ true) (fits : Fits k 19) (before after : Buffer) where
-  abbrev Listed : Meaning → Result ⊤ Stop → Type 0
-  Listed m result = MatchResult result (λ _. IsListed k m cells h bytes before after) (λ stop. (outcome k m cells h bytes ≡ Err stop) × Puts before [] after)
-
-  becomes : Lawful (model_of h) → (result : Result ⊤ Stop) → Listed (model_of h) result → Becomes (IsVote k h bytes) (text_and_number (listing k (model_of h) cells h) (outcome k (model_of h) cells h bytes)) result before after
+  becomes : Lawful (model_of h) → (result : Result ⊤ Stop) → IsListedOr k (model_of h) cells h bytes result before after → BecomesVote k cells h bytes result before after
   becomes lawful (Ok x) l = (
     listing k (model_of h) cells h l.left,
-    ap (text_and_number (listing k (model_of h) cells h)) l.ends,
+    ap (report_of (listing k (model_of h) cells h)) l.ends,
     l.puts,
     listing_short k (model_of h) cells h l.left fits l.sound l.small.0 l.small.1 l.small.2,
     starts k (model_of h) cells h l.left,
     is_vote agreement k cells h lawful bytes l.laid l.left l.ends falls l.sound,
   )
-  becomes lawful (Err why) e = (ap (text_and_number (listing k (model_of h) cells h)) e.0, e.1)
+  becomes lawful (Err why) e = (ap (report_of (listing k (model_of h) cells h)) e.0, e.1)
 
-  pub becomes_under : (m : Meaning) → m ≡ model_of h → Lawful m → (result : Result ⊤ Stop) → Listed m result → Becomes (IsVote k h bytes) (text_and_number (listing k (model_of h) cells h) (outcome k (model_of h) cells h bytes)) result before after
-  becomes_under m is lawful result l = becomes (subst Lawful is lawful) result (subst (λ m. Listed m result) is l)
+  pub becomes_under : (m : Meaning) → m ≡ model_of h → Lawful m → (result : Result ⊤ Stop) → IsListedOr k m cells h bytes result before after → BecomesVote k cells h bytes result before after
+  becomes_under m is lawful result l = becomes (subst Lawful is lawful) result (subst (λ m. IsListedOr k m cells h bytes result before after) is l)

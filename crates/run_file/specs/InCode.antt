@@ -2,7 +2,6 @@
 use Rattle.std.specs.Prelude.{◌≡◌, ℕ, suc, ◌+◌, ◌^◌, ◌<◌, ◌≤◌, true, List, [], ◌∷◌, ◌++◌, map, length, take, drop, codes, Some, None, Option, Result, Ok, Err, MatchResult, ⊤}
 use Rattle.values.specs.declared.kinds.Kind.{Ghosts}
 use Rattle.values.specs.declared.refusals.Refusal.{Refusal}
-use Rattle.values.specs.Refusals.{number_of}
 use Rattle.values.specs.Rules.{Rules, means, words, text}
 use Rattle.values.specs.Cells.{shows}
 use Rattle.values.specs.declared.buffers.Buffer.{Buffer}
@@ -20,8 +19,9 @@ use Rattle.run_file.specs.declared.stops.Stop.{Stop}
 use Rattle.run_file.specs.Files.{word, pieces, laid_out, proposals, initial_set, round_sets, forgery_lines}
 use Rattle.run_file.specs.Lines.{line, lines_refusal, cell_of}
 use Rattle.run_file.specs.Lines as format
-use Rattle.run_file.specs.Texts.{refused_line}
-use Rattle.run_file.specs.Listings.{setting_of, file_refusal, outcome, listing, least_room}
+use Rattle.run_file.specs.Headers.{model_of}
+use Rattle.run_file.specs.Listings.{setting_of, file_refusal, outcome, listing, least_room, Report, accepted, refused, report_under}
+use Rattle.run_file.specs.Promises.{IsVote}
 use Rattle.run_file.specs.Votes.{Asked, lines_of, rounds_from, run_through}
 
 abbrev pub pieces_of : Pieces → List (List ℕ)
@@ -163,8 +163,18 @@ pub record IsListed (k : Rules) (m : Meaning) (cells : ℕ) (h : Header) (bytes 
   pub sound : (i : ℕ) → IsSound k (step (setting_of k cells) m left (Decision i)).1
   pub small : (h.n ≤ 16) × (h.t < 2 ^ 8) × (h.rounds < 2 ^ 16)
 
+-- a file under a model: it is not refused, and its listing is added; or this is its stop, and nothing is added
+abbrev pub IsListedOr : Rules → Meaning → (cells : ℕ) → Header → (bytes : List ℕ) → Result ⊤ Stop → (before after : Buffer) → Type 0
+IsListedOr k m cells h bytes result before after = MatchResult result
+    (λ _. IsListed k m cells h bytes before after)
+    (λ stop. (outcome k m cells h bytes ≡ Err stop) × Puts before [] after)
+
 -- what becomes of a file: its listing, which starts with `run`, obeys a law and is not long, is added to a text; or it is refused, and nothing is added
-abbrev pub Becomes : (Law : List ℕ → Type 0) → List ℕ × ℕ → Result ⊤ Stop → (before after : Buffer) → Type 0
-Becomes Law becomes result before after = MatchResult result
-    (λ _. (words : List ℕ) × (becomes ≡ (words, 0)) × Puts before words after × (length words ≤ least_room) × (take 3 words ≡ codes "run") × Law words)
-    (λ stop. (becomes ≡ (refused_line stop, number_of stop.refusal)) × Puts before [] after)
+abbrev pub Becomes : (Law : List ℕ → Type 0) → Report → Result ⊤ Stop → (before after : Buffer) → Type 0
+Becomes Law report result before after = MatchResult result
+    (λ _. (words : List ℕ) × (report ≡ accepted words) × Puts before words after × (length words ≤ least_room) × (take 3 words ≡ codes "run") × Law words)
+    (λ stop. (report ≡ refused stop) × Puts before [] after)
+
+-- the same of a file with this header, by the rules of its values
+abbrev pub BecomesVote : Rules → (cells : ℕ) → Header → (bytes : List ℕ) → Result ⊤ Stop → (before after : Buffer) → Type 0
+BecomesVote k cells h bytes = Becomes (IsVote k h bytes) (report_under k (model_of h) cells h bytes)

@@ -1,4 +1,4 @@
--- What becomes of a run file: a text and a number. Assumes nothing.
+-- What becomes of a run file: a text, and why it is refused, if it is. Assumes nothing.
 use Rattle.std.specs.Prelude.{ℕ, if◌then◌else◌, not, List, [], ◌∷◌, ◌++◌, map, length, None, Some, Option, Result, Ok, Err, ◌==◌, nat_lt}
 use Rattle.std.specs.Option.{option_map}
 use Rattle.values.specs.declared.refusals.Refusal.{Refusal}
@@ -67,10 +67,25 @@ module _ (k : Rules) (m : Meaning) (cells : ℕ) (h : Header) (bytes : List ℕ)
 unfoldable pub listing : Rules → Meaning → (cells : ℕ) → Header → State → List ℕ
 listing k m cells h s = first_line h ++ controller_lines (setting_of k cells) m s h.n
 
--- a text with number 0, or the line of a refusal with its number
-abbrev pub text_and_number : (State → List ℕ) → Result State Stop → List ℕ × ℕ
-text_and_number lists (Ok s) = (lists s, 0)
-text_and_number lists (Err stop) = (refused_line stop, number_of stop.refusal)
+-- what is reported of a file: a text, and why the file is refused, if it is
+pub record Report : Type 0 where
+  pub text : List ℕ
+  pub stop : Option Stop
+
+abbrev pub accepted : (text : List ℕ) → Report
+accepted text = record { text = text; stop = None }
+
+-- a refused file's text is the line of its very stop
+abbrev pub refused : Stop → Report
+refused why = record { text = refused_line why; stop = Some why }
+
+abbrev pub report_of : (State → List ℕ) → Result State Stop → Report
+report_of lists (Ok s) = accepted (lists s)
+report_of lists (Err why) = refused why
+
+-- a file with this header, under a model
+abbrev pub report_under : Rules → Meaning → (cells : ℕ) → Header → List ℕ → Report
+report_under k m cells h bytes = report_of (listing k m cells h) (outcome k m cells h bytes)
 
 -- how many cells there are for each kind
 pub record Cells : Type 0 where
@@ -84,25 +99,30 @@ abbrev pub cells_of : Cells → ValueKind → ℕ
 cells_of c Setpoint = c.setpoints
 cells_of c Sheet = c.sheets
 
--- a file with this header
-abbrev pub of_kind : Cells → List ℕ → Header → ValueKind → List ℕ × ℕ
-of_kind c bytes h kind =
-    let k = rules_of kind in
-    let m = model_of h in
-    let cells = cells_of c kind in
-    text_and_number (listing k m cells h) (outcome k m cells h bytes)
+-- the same under the model that the header names
+abbrev pub of_kind : Cells → List ℕ → Header → ValueKind → Report
+of_kind c bytes h kind = report_under (rules_of kind) (model_of h) (cells_of c kind) h bytes
 
-abbrev pub with_header : Cells → List ℕ → Result Header Refusal → List ℕ × ℕ
+abbrev pub with_header : Cells → List ℕ → Result Header Refusal → Report
 with_header c bytes (Ok h) = of_kind c bytes h h.kind
-with_header c bytes (Err why) = (refused_line (stop why), number_of why)
+with_header c bytes (Err why) = refused (stop why)
 
 -- a text buffer has so many bytes at least
 abbrev pub least_room : ℕ
 least_room = 512
 
--- the listing of a file's bytes, where the text buffer has so many bytes: its text, and the refusal's number or 0
-abbrev pub listing_of : (room : ℕ) → Cells → List ℕ → List ℕ × ℕ
-listing_of room c bytes = if nat_lt room least_room then ([], number_of TextRoom) else with_header c bytes (header_of bytes)
+-- a text buffer that is too small takes no text
+abbrev pub no_room : Report
+no_room = record { text = []; stop = Some (stop TextRoom) }
+
+-- the listing of a file's bytes, where the text buffer has so many bytes
+abbrev pub listing_of : (room : ℕ) → Cells → List ℕ → Report
+listing_of room c bytes = if nat_lt room least_room then no_room else with_header c bytes (header_of bytes)
+
+-- the number that people know a report by: its refusal's, or 0
+abbrev pub number_told : Option Stop → ℕ
+number_told None = 0
+number_told (Some why) = number_of why.refusal
 
 -- how many cells for values of a kind may be written: those that the run uses, if its values are of that kind
 abbrev pub used_with : Cells → List ℕ → ValueKind → Result Header Refusal → ℕ

@@ -1,4 +1,4 @@
--- What is promised of a listing by its text and the bytes of the file alone. Assumes nothing.
+-- What is promised of a listing: of what was lent, and by its text and the bytes of the file alone. Assumes nothing.
 use Rattle.std.specs.Prelude.{◌≡◌, ◌⊎◌, ℕ, ◌+◌, ◌*◌, ◌<◌, ◌≤◌, true, false, List, [], ◌∷◌, ◌++◌, length, take, drop, Ok, codes, decimal, ◌==◌, slice_index_or}
 use Rattle.std.specs.List.{slice_split}
 use Rattle.values.specs.Rules.{Rules, words, text}
@@ -8,6 +8,14 @@ use Rattle.run_file.specs.declared.headers.Header.{Header}
 use Rattle.run_file.specs.Files.{word}
 use Rattle.run_file.specs.Headers.{header_of, model_of}
 use Rattle.run_file.specs.Listings.{rules_of}
+
+-- the text stands at the front of the buffer, and the bytes past it stay
+abbrev pub IsAtFront : (words : List ℕ) → (len : ℕ) → (before after : List ℕ) → Type 0
+IsAtFront words len before after = (len ≡ length words) × (after ≡ words ++ drop (length words) before)
+
+-- no cell past so many is written
+abbrev pub StaysPast : {C : Type 0} → (used : ℕ) → (before after : List C) → Type 0
+StaysPast used before after = drop used after ≡ drop used before
 
 -- a text that is a first line and these further lines, each ended by a line feed (byte 10)
 pub record HasLines (listed : List ℕ) (lines : List (List ℕ)) : Type 0 where

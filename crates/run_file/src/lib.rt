@@ -13,3 +13,4 @@ mod votes;
 mod words;
 
 pub use listings::{Listing, list};
+pub use stops::Stop;

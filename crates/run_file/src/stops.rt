@@ -1,12 +1,16 @@
 ghost use Rattle.std.specs.Prelude.{◌≡◌, None};
 
+use std::error::Error;
+use std::fmt;
 use values::Refusal;
 
-/// Why nothing more is done with a run file: the refusal, and the round of the call that was refused, if it was a round's.
+/// Why nothing more is done with a run file. Displays as one line for people, as `round 3: the model does not allow the move`.
 // A close has its round too, though none is refused here: it comes where a round is seated.
 #[derive(Clone, Copy, PartialEq, Eq, Debug)]
 pub struct Stop {
+    /// Why the file was refused, or a call that it asks for.
     pub refusal: Refusal,
+    /// The round of that call, if it is a round's.
     pub round: Option<u16>,
 }
 
@@ -20,3 +24,15 @@ impl From<Refusal> for Stop {
         }
     }
 }
+
+// What is printed is not promised, since no definition has the words: tests hold it.
+impl fmt::Display for Stop {
+    fn fmt<W: fmt::Write>(&self, f: &mut fmt::Formatter<W>) -> fmt::Result {
+        if let Some(round) = self.round {
+            write!(f, "round {round}: ")?;
+        }
+        f.write_str(self.refusal.meaning())
+    }
+}
+
+impl Error for Stop {}

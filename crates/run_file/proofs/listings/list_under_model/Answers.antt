@@ -9,7 +9,7 @@ use Rattle.run_file.specs.InCode.{sets_in, lines_in, opens}
 use Rattle.run_file.proofs.Listed.{puts_none}
 use Rattle.run_file.proofs.Outcomes.{lines_checked, outcome_is, past_used, refused_is}
 use Rattle.run_file.proofs.Shortness.{decision_sound}
-use Rattle.run_file.proofs.listings.list_under.Goals as goal
+use Rattle.run_file.proofs.listings.list_under_model.Goals as goal
 
 pub perform-requires : goal.perform-requires
 perform-requires g c =
