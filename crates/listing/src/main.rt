@@ -2,9 +2,10 @@
 
 ghost use Rattle.std.specs.Prelude.{◌≤◌, length, IfOk};
 
-use run_file::list;
-use std::io;
+use run_file::{Stop, list};
 use std::io::{Read, Write};
+use std::process::ExitCode;
+use std::{fmt, io};
 use values::{Cell, Shares};
 
 // One byte more than the longest run file has: enough to see that an input is too long.
@@ -15,6 +16,27 @@ const CELLS: usize = 4688;
 
 // What `list` asks for, and every listing fits.
 const TEXT_BYTES: usize = 512;
+
+// Why the program ends without a listing. Displays as one line for people.
+#[derive(Drop)]
+enum Failure {
+    // Standard input cannot be read.
+    Read(io::Error),
+    // The text cannot be written.
+    Write(io::Error),
+    // The file is refused; its text is written all the same.
+    Refused(Stop),
+}
+
+impl fmt::Display for Failure {
+    fn fmt<W: fmt::Write>(&self, f: &mut fmt::Formatter<W>) -> fmt::Result {
+        match self {
+            Failure::Read(error) => write!(f, "the file cannot be read: {error}"),
+            Failure::Write(error) => write!(f, "the listing cannot be written: {error}"),
+            Failure::Refused(stop) => write!(f, "{stop}"),
+        }
+    }
+}
 
 // Reads what comes until it ends or the room is full, and tells how many bytes came. A read that a signal
 // interrupts is an error like any other, since a loop that tries again need not end.
@@ -33,18 +55,31 @@ fn fill(rt: &HostRuntime, room: &mut [u8]) -> io::Result<usize>
     Ok(len)
 }
 
-fn main(rt: HostRuntime) -> io::Result<()> {
+// Lists standard input on standard output.
+fn list_input(rt: &HostRuntime) -> Result<(), Failure> {
     let mut file = [0u8; INPUT_BYTES];
-    let len = fill(&rt, &mut file)?;
+    let len = fill(rt, &mut file).map_err(Failure::Read)?;
     let mut setpoints: [Cell<u16>; CELLS] = [None; CELLS];
     let mut sheets: [Cell<Shares>; CELLS] = [None; CELLS];
     let mut text = [0u8; TEXT_BYTES];
     let listing = list(&file[..len], &mut setpoints, &mut sheets, &mut text);
-    rt.stdout().write_all(&text[..listing.len])?;
-    if listing.number == 0 {
-        Ok(())
-    } else {
-        // So that a script sees by the status that the file was refused.
-        Err(io::ErrorKind::InvalidInput.into())
+    rt.stdout()
+        .write_all(&text[..listing.len])
+        .map_err(Failure::Write)?;
+    match listing.stop {
+        None => Ok(()),
+        Some(stop) => Err(Failure::Refused(stop)),
+    }
+}
+
+// By `ExitCode`, since an error that `main` returns is printed for programmers.
+fn main(rt: HostRuntime) -> ExitCode {
+    match list_input(&rt) {
+        Ok(()) => ExitCode::SUCCESS,
+        Err(failure) => {
+            // Where not even this can be written, the status is left to tell.
+            let _ = eprintln!(rt; "{failure}");
+            ExitCode::FAILURE
+        }
     }
 }

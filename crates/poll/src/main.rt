@@ -3,22 +3,60 @@
 mod polls;
 
 use polls::{Fault, hold};
-use std::io;
 use std::io::Read;
+use std::process::ExitCode;
+use std::{fmt, io};
 
 // One byte more than the largest block has: enough to see that an input is too long.
 const MOST_BYTES: u64 = 33;
 
-fn main(rt: HostRuntime) -> io::Result<()> {
-    let mut input = Vec::new(rt.alloc());
-    rt.stdin().take(MOST_BYTES).read_to_end(&mut input)?;
-    // Not a `From<Fault>` for `io::Error`, since a refusal is printed too.
-    match hold(rt.alloc(), &input) {
-        Ok(poll) => print!(rt; "{poll}"),
-        Err(Fault::Refused(refusal)) => {
-            println!(rt; "refused {refusal}")?;
-            Err(io::ErrorKind::InvalidInput.into())
+// Why the program ends without a poll. Displays as one line for people.
+#[derive(Drop)]
+enum Failure {
+    // Standard input cannot be read.
+    Read(io::Error),
+    // The text cannot be written.
+    Write(io::Error),
+    // No poll is held.
+    Held(Fault),
+}
+
+impl fmt::Display for Failure {
+    fn fmt<W: fmt::Write>(&self, f: &mut fmt::Formatter<W>) -> fmt::Result {
+        match self {
+            Failure::Read(error) => write!(f, "the proposals cannot be read: {error}"),
+            Failure::Write(error) => write!(f, "the poll cannot be written: {error}"),
+            Failure::Held(fault) => write!(f, "{fault}"),
         }
-        Err(Fault::NoMemory) => Err(io::ErrorKind::OutOfMemory.into()),
+    }
+}
+
+// Polls standard input on standard output. A refusal is printed there too, as its number.
+fn poll_input(rt: &HostRuntime) -> Result<(), Failure> {
+    let mut input = Vec::new(rt.alloc());
+    rt.stdin()
+        .take(MOST_BYTES)
+        .read_to_end(&mut input)
+        .map_err(Failure::Read)?;
+    match hold(rt.alloc(), &input) {
+        Ok(poll) => print!(rt; "{poll}").map_err(Failure::Write),
+        Err(fault) => {
+            if let Fault::Refused(refusal) = &fault {
+                println!(rt; "refused {refusal}").map_err(Failure::Write)?;
+            }
+            Err(Failure::Held(fault))
+        }
+    }
+}
+
+// By `ExitCode`, since an error that `main` returns is printed for programmers.
+fn main(rt: HostRuntime) -> ExitCode {
+    match poll_input(&rt) {
+        Ok(()) => ExitCode::SUCCESS,
+        Err(failure) => {
+            // Where not even this can be written, the status is left to tell.
+            let _ = eprintln!(rt; "{failure}");
+            ExitCode::FAILURE
+        }
     }
 }

@@ -12,15 +12,20 @@ pub use counting::hold;
 /// What the controllers of a block propose, and how each distinct value stands, in order of first appearance.
 #[derive(Drop)]
 pub struct Poll {
+    /// What each controller proposes, from controller 0 on, or why its bytes are refused.
     pub proposals: Vec<Result<Setpoint, Refusal>>,
+    /// A standing for each distinct value.
     pub standings: Vec<Standing>,
 }
 
 /// A distinct value, with how many cells hold it and how many are filled otherwise.
 #[derive(Drop)]
 pub struct Standing {
+    /// The value that stands so.
     pub value: Setpoint,
+    /// How many cells hold it.
     pub holding: usize,
+    /// How many cells are filled otherwise.
     pub otherwise: usize,
 }
 
@@ -60,11 +65,22 @@ impl fmt::Display for Poll {
     }
 }
 
-/// Why no poll was held.
+/// Why no poll was held. Displays as one line for people.
 #[derive(Drop)]
 pub enum Fault {
+    /// The block is refused.
     Refused(Refusal),
+    /// There is not memory enough.
     NoMemory,
+}
+
+impl fmt::Display for Fault {
+    fn fmt<W: fmt::Write>(&self, f: &mut fmt::Formatter<W>) -> fmt::Result {
+        f.write_str(match self {
+            Fault::Refused(refusal) => refusal.meaning(),
+            Fault::NoMemory => "there is not memory enough",
+        })
+    }
 }
 
 // Both by hand, since `hold` promises which error comes: the `From` that `thiserror` derives has no contract, and a

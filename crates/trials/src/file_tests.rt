@@ -1,8 +1,9 @@
 use crate::helpers::shares;
 use models::Standard;
-use run_file::{Listing, list};
+use run_file::{Listing, Stop, list};
 use std::process::Abort;
-use values::{Buffer, Cell, Shares};
+use std::test::Fail;
+use values::{Buffer, Cell, Refusal, Shares};
 
 // Two controllers, no upsets, six rounds.
 const WORKED: [u8; 34] = [
@@ -28,12 +29,20 @@ fn old_sheet() -> Cell<Shares> {
     Some(shares(1, 2, 3, 4))
 }
 
+// What is answered of a file that is refused outside the rounds.
+fn refused(len: usize, refusal: Refusal) -> Listing {
+    Listing {
+        len,
+        stop: Some(refusal.into()),
+    }
+}
+
 // Whether a file is refused with this number, and all cells stay.
 fn leaves_cells(file: &[u8], number: u8) -> bool {
     let mut setpoints = [OLD; 30];
     let mut sheets = [old_sheet(); 30];
     let listing = list(file, &mut setpoints, &mut sheets, &mut [7; 512]);
-    listing.number == number && setpoints == [OLD; 30] && sheets == [old_sheet(); 30]
+    listing.number() == number && setpoints == [OLD; 30] && sheets == [old_sheet(); 30]
 }
 
 // Whether a file is listed with this text and number, and the bytes past the text stay.
@@ -45,7 +54,7 @@ fn lists(file: &[u8], expected: &[u8], number: u8) -> bool {
     let Some((words, rest)) = text.split_at_checked(listing.len) else {
         return false;
     };
-    listing.number == number && words == expected && rest.iter().all(|byte| *byte == 7)
+    listing.number() == number && words == expected && rest.iter().all(|byte| *byte == 7)
 }
 
 // The round, the sender, the receiver, the column and the tag, and the value.
@@ -148,12 +157,12 @@ fn the_worked_file_is_listed(rt: HostRuntime) {
 
 #[test]
 fn a_small_text_buffer_is_refused_first(rt: HostRuntime) {
-    let refused = Listing { len: 0, number: 26 };
+    let no_room = refused(0, Refusal::TextRoom);
     let mut text = [7; 511];
-    assert_eq!(rt; list(&WORKED, &mut [None; 26], &mut [], &mut text), refused);
-    assert_eq!(rt; list(&[], &mut [None; 26], &mut [], &mut text), refused); // also 21
+    assert_eq!(rt; list(&WORKED, &mut [None; 26], &mut [], &mut text), no_room);
+    assert_eq!(rt; list(&[], &mut [None; 26], &mut [], &mut text), no_room); // also 21
     assert_eq!(rt; text, [7; 511]);
-    assert_eq!(rt; list(&WORKED, &mut [None; 26], &mut [], &mut []), refused);
+    assert_eq!(rt; list(&WORKED, &mut [None; 26], &mut [], &mut []), no_room);
 }
 
 #[test]
@@ -309,16 +318,23 @@ fn a_refused_open_is_told_without_a_round(rt: HostRuntime) {
 fn a_store_of_one_cell_too_few_is_refused(rt: HostRuntime) {
     let file = altered(20, 0b100);
     let mut text = [7; 512];
-    let refused = Listing { len: 10, number: 4 };
     assert_eq!(rt;
         list(&file, &mut [None; 25], &mut [None; 99], &mut text),
-        refused
+        refused(10, Refusal::StoreSize)
     ); // also 6
     assert!(rt; text.starts_with(b"refused 4\n"));
-    let refused = Listing { len: 10, number: 6 };
-    assert_eq!(rt; list(&file, &mut [None; 26], &mut [], &mut text), refused);
+    assert_eq!(rt;
+        list(&file, &mut [None; 26], &mut [], &mut text),
+        refused(10, Refusal::SetMembers)
+    );
     let listed = list(&WORKED, &mut [None; 26], &mut [], &mut text);
-    assert_eq!(rt; listed, Listing { len: 22, number: 0 });
+    assert_eq!(rt;
+        listed,
+        Listing {
+            len: 22,
+            stop: None
+        }
+    );
 }
 
 const MOVED: Vote = Vote {
@@ -342,6 +358,27 @@ const FORGED_BEFORE: [Lined; 1] = [(&[(1, [0, 0, 0, 1], 500)], b"refused 10 roun
 fn a_refused_seat_is_told_with_its_round(rt: HostRuntime) {
     come_to(&rt, LINED, &SEATS);
     lines_come_to(&rt, MOVED, &FORGED_BEFORE);
+}
+
+// Whoever prints a stop prints the words of its refusal, behind its round if it has one.
+#[test]
+fn a_stop_is_told_in_words(rt: HostRuntime) -> Result<(), Fail> {
+    let move_refused = Stop {
+        refusal: Refusal::ForbiddenMove,
+        round: Some(3),
+    };
+    let words = move_refused.to_string(rt.alloc())?;
+    assert_eq!(rt;
+        words.as_str(),
+        "round 3: the model does not allow the move"
+    );
+    let file_refused = Stop::from(Refusal::HeaderCode);
+    let words = file_refused.to_string(rt.alloc())?;
+    assert_eq!(rt;
+        words.as_str(),
+        "a code in the header has no meaning, or byte 5 is not 0"
+    );
+    Ok(())
 }
 
 // In round 0 controller 0 is honest, 1 uniform and 2 free.
@@ -440,12 +477,18 @@ fn a_sheet_is_listed_by_its_shares(rt: HostRuntime) {
     let mut sheets = [old_sheet(); 10];
     let mut text = [7; 512];
     let listed = list(&file, &mut setpoints, &mut sheets, &mut text);
-    assert_eq!(rt; listed, Listing { len: 28, number: 0 });
+    assert_eq!(rt;
+        listed,
+        Listing {
+            len: 28,
+            stop: None
+        }
+    );
     assert!(rt; text.starts_with(b"run 1 0 3\n0 400 300 200 100\n"));
     assert_eq!(rt; setpoints, [OLD; 8]);
     assert_eq!(rt; [sheets[8], sheets[9]], [old_sheet(); 2]);
-    let refused = list(&file, &mut setpoints, &mut sheets[..7], &mut text);
-    assert_eq!(rt; refused, Listing { len: 10, number: 4 });
+    let small = list(&file, &mut setpoints, &mut sheets[..7], &mut text);
+    assert_eq!(rt; small, refused(10, Refusal::StoreSize));
 }
 
 // A value of eight bytes in the one line, whose sender is honest.
@@ -481,7 +524,7 @@ fn cells_that_no_run_needs_stay(rt: HostRuntime) {
     let mut setpoints = [OLD; 30];
     let mut sheets = [old_sheet(); 30];
     let listing = list(&WORKED, &mut setpoints, &mut sheets, &mut [7; 512]);
-    assert_eq!(rt; listing.number, 0);
+    assert_eq!(rt; listing.number(), 0);
     assert_eq!(rt; &setpoints[26..], [OLD; 4].as_slice());
     assert_eq!(rt; sheets, [old_sheet(); 30]);
 }

@@ -1,23 +1,40 @@
 use values::Refusal;
 
+// Each refusal with its number, and with words that its meaning has and no other's.
+const REFUSALS: &[(Refusal, u8, &str)] = &[
+    (Refusal::BlockSize, 1, "more than 16"),
+    (Refusal::FaultCount, 2, "t is not below n"),
+    (Refusal::Resilience, 3, "not above b + e + l"),
+    (Refusal::StoreSize, 4, "cells"),
+    (Refusal::ProposalCount, 5, "proposals"),
+    (Refusal::SetMembers, 6, "members"),
+    (Refusal::ForbiddenMove, 7, "the move"),
+    (Refusal::OutOfTurn, 8, "the turn"),
+    (Refusal::NoSuchPlace, 9, "column"),
+    (Refusal::NotForgeable, 10, "uniform"),
+    (Refusal::RoundLimit, 11, "1,000"),
+    (Refusal::WasSeated, 12, "was seated"),
+    (Refusal::FileSize, 21, "65,535"),
+    (Refusal::HeaderCode, 22, "byte 5"),
+    (Refusal::Layout, 23, "offset"),
+    (Refusal::Value, 24, "width"),
+    (Refusal::ForgeryLine, 25, "tag"),
+    (Refusal::TextRoom, 26, "512"),
+];
+
 #[test]
 fn refusals_have_their_numbers(rt: HostRuntime) {
-    const REFUSALS: &[(Refusal, u8)] = &[
-        (Refusal::BlockSize, 1),
-        (Refusal::FaultCount, 2),
-        (Refusal::Resilience, 3),
-        (Refusal::StoreSize, 4),
-        (Refusal::ProposalCount, 5),
-        (Refusal::SetMembers, 6),
-        (Refusal::ForbiddenMove, 7),
-        (Refusal::OutOfTurn, 8),
-        (Refusal::NoSuchPlace, 9),
-        (Refusal::NotForgeable, 10),
-        (Refusal::RoundLimit, 11),
-        (Refusal::WasSeated, 12),
-        (Refusal::Value, 24),
-    ];
-    for (refusal, number) in REFUSALS {
+    for (refusal, number, _) in REFUSALS {
         assert_eq!(rt; u8::from(*refusal), *number);
+    }
+}
+
+#[test]
+fn each_refusal_has_its_own_words(rt: HostRuntime) {
+    for (refusal, _, own) in REFUSALS {
+        for (other, number, _) in REFUSALS {
+            let has = other.meaning().contains(*own);
+            assert!(rt; has == (*other == *refusal), "{own} in the words of {number}");
+        }
     }
 }

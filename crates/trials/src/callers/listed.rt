@@ -13,12 +13,11 @@ pub fn list_vote(
     text: &mut [u8],
 ) -> Option<usize>
     ensures vote { IfSome result (λ len. Agreed file.now (take len text.new)) }
-    ensures refused { result ≡ None → (listing_of (length text.old) (lent setpoints.old sheets.old) file.now).1 ≢ 0 }
+    ensures refused { result ≡ None → (listing_of (length text.old) (lent setpoints.old sheets.old) file.now).stop ≢ None }
 {
     let listing = list(file, setpoints, sheets, text);
-    if listing.number == 0 {
-        Some(listing.len)
-    } else {
-        None
+    match listing.stop {
+        None => Some(listing.len),
+        Some(_) => None,
     }
 }
