@@ -2,20 +2,15 @@
 
 ghost use Rattle.std.specs.Prelude.{◌≤◌, length, IfOk};
 
-use run_file::{Stop, list};
+use run::MOST_CELLS;
+use run_file::{LEAST_ROOM, MOST_BYTES, Stop, list};
 use std::io::{Read, Write};
 use std::process::ExitCode;
 use std::{fmt, io};
 use values::{Cell, Shares};
 
 // One byte more than the longest run file has: enough to see that an input is too long.
-const INPUT_BYTES: usize = 65536;
-
-// What the largest block needs.
-const CELLS: usize = 4688;
-
-// What `list` asks for, and every listing fits.
-const TEXT_BYTES: usize = 512;
+const INPUT_BYTES: usize = MOST_BYTES + 1;
 
 // Why the program ends without a listing. Displays as one line for people.
 #[derive(Drop)]
@@ -59,9 +54,9 @@ fn fill(rt: &HostRuntime, room: &mut [u8]) -> io::Result<usize>
 fn list_input(rt: &HostRuntime) -> Result<(), Failure> {
     let mut file = [0u8; INPUT_BYTES];
     let len = fill(rt, &mut file).map_err(Failure::Read)?;
-    let mut setpoints: [Cell<u16>; CELLS] = [None; CELLS];
-    let mut sheets: [Cell<Shares>; CELLS] = [None; CELLS];
-    let mut text = [0u8; TEXT_BYTES];
+    let mut setpoints: [Cell<u16>; MOST_CELLS] = [None; MOST_CELLS];
+    let mut sheets: [Cell<Shares>; MOST_CELLS] = [None; MOST_CELLS];
+    let mut text = [0u8; LEAST_ROOM];
     let listing = list(&file[..len], &mut setpoints, &mut sheets, &mut text);
     rt.stdout()
         .write_all(&text[..listing.len])

@@ -1,6 +1,7 @@
 -- What a poll of a block reads and counts. Assumes nothing.
 use Rattle.std.specs.Prelude.{◌≡◌, ℕ, zero, suc, min, if◌then◌else◌, ◌&&◌, List, [], ◌∷◌, ◌++◌, map, length, take, Some, None, Ok, Err, count_by, Option, Result, ◌==◌, nat_le, slice_index_or, codes, decimal}
 use Rattle.std.specs.Result.{result_ok}
+use Rattle.models.specs.declared.sets.TheConstants.{MOST_CONTROLLERS}
 use Rattle.values.specs.declared.refusals.Refusal.{Refusal}
 use Rattle.values.specs.declared.refusals.Refusal.TheVariants.{BlockSize}
 use Rattle.values.specs.Rules.{reads, meant, text}
@@ -25,9 +26,9 @@ proposed input = map (reads setpoint_rules) (pieces input)
 abbrev pub cells_of : List (Result (List ℕ) Refusal) → List Held
 cells_of proposals = map result_ok proposals
 
--- a block has 1 to 16 controllers
+-- a block has 1 to MOST_CONTROLLERS controllers
 abbrev pub sized : ℕ → Result (Unit {0}) Refusal
-sized n = if nat_le 1 n && nat_le n 16 then Ok tt else Err BlockSize
+sized n = if nat_le 1 n && nat_le n MOST_CONTROLLERS then Ok tt else Err BlockSize
 
 -- the value of a cell, if it is filled and none of the cells before it holds the same
 abbrev pub unseen : List Held → Held → List (List ℕ)

@@ -132,7 +132,19 @@ module _ {V R : Type 0} {kind : Ghosts V R} (b : Block) (seating : Seating) (s :
   pub of_sent : (P : ℕ → (ℕ → ℕ → ℕ → Held) → Type 0) → P sent.n (hears sent) → P b.n (hears_at kind.rules kind.plain b seating s stage)
   of_sent P computed = subst (P b.n) hears_is (subst (λ n. P n (hears sent)) round.0 computed)
 
--- the cells that a close leaves, by the store in them
-pub renews : {R : Type 0} (k : Rules) (plain : R → List ℕ) (b : Block) (seating : Seating) (before after : List (Option R)) (rows v decisions : List (Option R)) → store b.n after ≡ record { forged = (store b.n before).forged; rows = rows; v = v; decisions = decisions }
-    → ((i : ℕ) → i < b.n → kept_in k plain b.n (record { forged = (store b.n before).forged; rows = rows; v = v; decisions = decisions }) i ≡ renewed k plain b seating (store b.n before) i) → Renews k plain b seating before after
-renews k plain b seating before after rows v decisions is kept = record { forged = ap (λ (s : Store _). s.forged) is; kept = λ i lt. ap (λ s. kept_in k plain b.n s i) is ∙ kept i lt }
+-- the cells that a close leaves, by what is put into them: rows or v, and then decisions; or decisions alone
+module _ {R : Type 0} (k : Rules) (plain : R → List ℕ) (b : Block) (seating : Seating) (before mid after : List (Option R)) where
+  abbrev in_block : (rows v decisions : List (Option R)) → Type 0
+  in_block rows v decisions = (i : ℕ) → i < b.n → kept_in k plain b.n (record { forged = (store b.n before).forged; rows = rows; v = v; decisions = decisions }) i ≡ renewed k plain b seating (store b.n before) i
+
+  renews : (rows v decisions : List (Option R)) → store b.n after ≡ record { forged = (store b.n before).forged; rows = rows; v = v; decisions = decisions } → in_block rows v decisions → Renews k plain b seating before after
+  renews rows v decisions is kept = record { forged = ap (λ (s : Store R). s.forged) is; kept = λ i lt. ap (λ s. kept_in k plain b.n s i) is ∙ kept i lt }
+
+  pub renews_v : (v decisions : List (Option R)) → store b.n mid ≡ record (store b.n before) { v = v } → store b.n after ≡ record (store b.n mid) { decisions = decisions } → in_block (store b.n before).rows v decisions → Renews k plain b seating before after
+  renews_v v decisions first then_ = renews (store b.n before).rows v decisions (then_ ∙ ap (λ (s : Store R). record s { decisions = decisions }) first)
+
+  pub renews_rows : (rows decisions : List (Option R)) → store b.n mid ≡ record (store b.n before) { rows = rows } → store b.n after ≡ record (store b.n mid) { decisions = decisions } → in_block rows (store b.n before).v decisions → Renews k plain b seating before after
+  renews_rows rows decisions first then_ = renews rows (store b.n before).v decisions (then_ ∙ ap (λ (s : Store R). record s { decisions = decisions }) first)
+
+  pub renews_decisions : (decisions : List (Option R)) → store b.n after ≡ record (store b.n before) { decisions = decisions } → in_block (store b.n before).rows (store b.n before).v decisions → Renews k plain b seating before after
+  renews_decisions decisions = renews (store b.n before).rows (store b.n before).v decisions

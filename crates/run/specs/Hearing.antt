@@ -1,7 +1,7 @@
 -- What is sent and heard in a round, by the cells that it lies in. Assumes nothing.
-use Rattle.std.specs.Prelude.{ℕ, ◌<◌, ⊤, Option, MatchOption}
+use Rattle.std.specs.Prelude.{◌≡◌, ℕ, ◌<◌, ⊤, List, Option, MatchOption}
 use Rattle.values.specs.declared.kinds.Kind.{Ghosts}
-use Rattle.values.specs.Cells.{Held}
+use Rattle.values.specs.Cells.{Held, seen}
 use Rattle.protocol.specs.Rounds.{Memory, sends, heard}
 use Rattle.run.specs.declared.hearing.Sent.{Sent}
 use Rattle.run.specs.Stores.{Store}
@@ -21,3 +21,7 @@ module _ {V R : Type 0} {kind : Ghosts V R} (s : Sent V R kind) where
 
   abbrev pub hears : (receiver sender column : ℕ) → Held
   hears = heard (class_in s.n s.classes) (λ j. sends s.stage (kept_by j)) (forged_in kind.rules kind.plain s.n store_of)
+
+  -- each receiver's cell is what is made of all that it hears
+  abbrev pub Computes : (made : (heard : (sender column : ℕ) → Held) → Held) → (cells : List (Option R)) → Type 0
+  Computes made cells = (i : ℕ) → i < s.n → seen kind.rules kind.plain cells i ≡ made (hears i)

@@ -1,5 +1,5 @@
 -- What is promised of whole rounds and of lists of calls. Assumes nothing.
-use Rattle.std.specs.Prelude.{◌≡◌, ℕ, ◌<◌, List, [], ◌∷◌, map, take, Some, Option, Result, Ok, slice_get}
+use Rattle.std.specs.Prelude.{◌≡◌, ℕ, ◌<◌, List, [], ◌∷◌, map, take, drop, Some, Option, Result, Ok, slice_get}
 use Rattle.values.specs.Cells.{shows}
 use Rattle.values.specs.Rules.{Rules}
 use Rattle.values.specs.declared.kinds.Kind.{Ghosts}
@@ -9,19 +9,21 @@ use Rattle.models.specs.Laws.{Meaning}
 use Rattle.models.specs.Standards.{standard}
 use Rattle.models.specs.Stamps.{stamped}
 use Rattle.protocol.specs.Rounds.{Memory}
-use Rattle.protocol.specs.Machine.{Setting, Block, Seating, State, Idle, Waiting, Seated}
+use Rattle.protocol.specs.Machine.{Setting, Block, Seating, State, Idle, Waiting, Seated, needed}
 use Rattle.protocol.specs.Machine as machine
 use Rattle.protocol.specs.Publications.{Algorithm, Sending, CuredAware, CuredUnaware, Algorithm1, Algorithm2, Algorithm3}
 use Rattle.protocol.specs.AnyCounts.{AnyRound, process1, process2}
 use Rattle.protocol.specs.MachineLaws.{IsRoundOf}
 use Rattle.protocol.specs.Compared.{Makes, MakesAfter, SendsCorrectly}
-use Rattle.protocol.specs.Transcripts.{Transcript, transcript, answered}
+use Rattle.protocol.specs.Transcripts.{Transcript, transcript, state_after, answered}
 use Rattle.run.specs.declared.run.Run.{Run}
 use Rattle.run.specs.declared.calls.Call.{Call}
 use Rattle.run.specs.declared.calls.Answer.{Answer}
 use Rattle.run.specs.declared.calls.Answer.TheVariants.{Decided}
 use Rattle.run.specs.Calls.{asked, said}
-use Rattle.run.specs.Runs.{state}
+use Rattle.run.specs.declared.turns.Turn.{Turn}
+use Rattle.run.specs.Views.{view}
+use Rattle.run.specs.Runs.{setting_over, state}
 use Rattle.run.specs.Standing.{entry, Stands}
 
 -- whichever counts the block has, the close of a round, from the state before it to the state after it, is the round under them for every unseated controller
@@ -81,3 +83,20 @@ abbrev pub block_size : State → ℕ
 block_size Idle = 0
 block_size (Waiting b) = b.n
 block_size (Seated b s) = b.n
+
+module _ {R : Type 0} (k : Rules) (plain : R → List ℕ) (cells : List (Option R)) (m : Meaning) (calls : List (Call R)) where
+  -- the state that calls leave of a new run over these cells
+  abbrev pub state_left : State
+  state_left = state_after (setting_over k cells) m Idle (map (asked k plain) calls)
+
+  -- these are the machine's answers to the calls
+  abbrev pub AreAnswered : List (Result (Answer R) Refusal) → Type 0
+  AreAnswered answers = map (said k plain) answers ≡ replies (setting_over k cells) m (map (asked k plain) calls)
+
+  -- at some turn the cells show the state that the calls leave
+  abbrev pub ShowStateLeft : (after : List (Option R)) → Type 0
+  ShowStateLeft after = (turn : Turn) × (view k plain turn after ≡ state_left)
+
+  -- the cells past those that its block needs are as they were
+  abbrev pub StayPastBlock : (after : List (Option R)) → Type 0
+  StayPastBlock after = let n = block_size state_left in drop (needed n) after ≡ drop (needed n) cells

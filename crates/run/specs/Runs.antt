@@ -48,6 +48,14 @@ module _ {V R : Type 0} {kind : Ghosts V R} where
     pub setting_stays : setting after ≡ setting before
     pub named : after.cells.ghost_name ≡ before.cells.ghost_name
 
+  -- the same of a call that names no model: it does this whichever model is thought of
+  abbrev pub PerformsAnyway : Call → Answer → (before after : Run V R kind) → Type 0
+  PerformsAnyway call answer before after = (m : Meaning) → Performs m call answer before after
+
+  -- a call that leaves the machine's state as it is has this answer, whichever model it names
+  abbrev pub Answers : Run V R kind → Call → Answer → Type 0
+  Answers r call answer = (m : Meaning) → (state r, answer) ≡ step (setting r) m (state r) call
+
   -- what calls on a run leave as it was, whatever else they do: the size of a block that there is, the cells past the needed number, and the setting
   pub record Keeps (before after : Run V R kind) : Type 0 where
     pub size : (size_of before.turn ≡ 0) ⊎ (size_of after.turn ≡ size_of before.turn)

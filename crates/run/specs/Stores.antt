@@ -1,5 +1,6 @@
 -- Where the cells of a run lie in the memory that was handed over. Assumes nothing.
-use Rattle.std.specs.Prelude.{ℕ, ◌*◌, List, take, drop, Option}
+use Rattle.std.specs.Prelude.{ℕ, ◌+◌, ◌*◌, List, take, drop, Option, slice_set}
+use Rattle.run.specs.declared.calls.Place.{Place}
 
 -- the cells that the rules name, one kind behind the other; work cells and what is past the needed number lie behind them
 pub record Store (R : Type 0) : Type 0 where
@@ -18,3 +19,7 @@ store n cells = record {
   v = take n (drop (n * n) (drop (n * n * n) cells));
   decisions = take n (drop n (drop (n * n) (drop (n * n * n) cells)));
 }
+
+-- a cell at the place of a forged message's column
+abbrev pub with_forged : {R : Type 0} → (n : ℕ) → Place → Option R → Store R → Store R
+with_forged n place cell s = record s { forged = slice_set s.forged ((place.sender * n + place.receiver) * n + place.column) cell }

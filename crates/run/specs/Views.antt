@@ -1,11 +1,13 @@
 -- What a run holds, as the machine has it. Assumes nothing.
-use Rattle.std.specs.Prelude.{ℕ, ◌+◌, ◌*◌, if◌then◌else◌, ◌&&◌, List, None, Option, nat_lt, slice_index_or}
-use Rattle.values.specs.Rules.{Rules}
+use Rattle.std.specs.Prelude.{◌≡◌, ℕ, ◌+◌, ◌*◌, if◌then◌else◌, ◌&&◌, List, map, None, Option, nat_lt, slice_index_or}
+use Rattle.values.specs.Rules.{Rules, means}
 use Rattle.values.specs.Cells.{Held, seen}
 use Rattle.models.specs.declared.classes.Class.{Class}
 use Rattle.models.specs.declared.classes.Class.TheVariants.{Honest}
 use Rattle.protocol.specs.Rounds.{Memory}
+use Rattle.protocol.specs.Machine.{started}
 use Rattle.protocol.specs.Machine as machine
+use Rattle.run.specs.declared.calls.Opening.{Opening}
 use Rattle.run.specs.declared.turns.Block.{Block}
 use Rattle.run.specs.declared.turns.Seating.{Seating}
 use Rattle.run.specs.declared.turns.Turn.{Turn}
@@ -29,6 +31,10 @@ module _ {R : Type 0} (k : Rules) (plain : R → List ℕ) where
     row = λ column. if nat_lt controller n && nat_lt column n then seen k plain s.rows (controller * n + column) else None;
     decision = if nat_lt controller n then seen k plain s.decisions controller else None;
   }
+
+  -- the cells of a block that is opened
+  abbrev pub AreStarted : Opening R → List (Option R) → Type 0
+  AreStarted o cells = kept_in o.n (store o.n cells) ≡ started (map (means k plain) o.proposals.now) o.initial.0
 
   abbrev pub block_in : Block → Store R → machine.Block
   block_in b s = record { n = b.n; t = b.t; counts = b.counts; round = b.round; last = b.last.0; memory = kept_in b.n s }

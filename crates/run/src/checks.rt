@@ -1,7 +1,7 @@
-ghost use Rattle.std.specs.Prelude.{◌≡◌, ◌≤◌, map, None, Some, MatchResult};
-ghost use Rattle.values.specs.Rules.{means};
-ghost use Rattle.protocol.specs.Machine.{misfits, open_refusal, seat_refusal, forge_refusal, decision_refusal};
-ghost use Rattle.run.specs.Checks.{IsOpened, IsSeated, bare, bare_seating};
+ghost use Rattle.std.specs.Prelude.{◌≡◌, ◌≤◌};
+ghost use Rattle.values.specs.Refusals.{TellsWhy, FindsOr};
+ghost use Rattle.protocol.specs.Machine.{misfits, seat_refusal, forge_refusal, decision_refusal};
+ghost use Rattle.run.specs.Checks.{IsOpened, IsSeated, why_open, bare, bare_seating};
 
 use crate::calls::{Opening, Place};
 use crate::layout::needed;
@@ -24,8 +24,7 @@ pub(crate) fn check_open<K: Kind, M: Model>(
     opening: &Opening<K::Row>,
     room: usize,
 ) -> Result<Block, Refusal>
-    ensures { MatchResult result (λ block. IsOpened K.rules K.plain (M.meaning model.now) opening.now room block)
-        (λ why. open_refusal (record { cells = room; fallback = K.rules.fallback }) (M.meaning model.now) opening.now.n opening.now.t (map (means K.rules K.plain) opening.now.proposals.now) opening.now.initial.0 ≡ Some why) }
+    ensures { FindsOr (IsOpened K.rules K.plain (M.meaning model.now) opening.now room) (why_open K.rules K.plain (M.meaning model.now) opening.now room) result }
 {
     let Opening {
         n,
@@ -63,7 +62,7 @@ pub(crate) fn check_open<K: Kind, M: Model>(
 
 /// The classes that a seat fixes, or why it is refused.
 pub(crate) fn check_seat<M: Model>(model: &M, block: &Block, set: Set) -> Result<Seating, Refusal>
-    ensures { MatchResult result (λ seating. IsSeated (M.meaning model.now) block.now set.0 seating) (λ why. seat_refusal (M.meaning model.now) (bare block.now) set.0 ≡ Some why) }
+    ensures { FindsOr (IsSeated (M.meaning model.now) block.now set.0) (seat_refusal (M.meaning model.now) (bare block.now) set.0) result }
 {
     if block.round >= MOST_ROUNDS {
         return Err(Refusal::RoundLimit);
@@ -89,8 +88,7 @@ pub(crate) fn check_seat<M: Model>(model: &M, block: &Block, set: Set) -> Result
 
 /// Why a forged cell is refused at a place, if it is.
 pub(crate) fn check_forge(block: &Block, seating: &Seating, place: Place) -> Result<(), Refusal>
-    ensures { MatchResult result (λ _. forge_refusal (bare block.now) (bare_seating block.now seating.now) place.sender place.receiver place.column ≡ None)
-        (λ why. forge_refusal (bare block.now) (bare_seating block.now seating.now) place.sender place.receiver place.column ≡ Some why) }
+    ensures { TellsWhy (forge_refusal (bare block.now) (bare_seating block.now seating.now) place.sender place.receiver place.column) result }
 {
     let Place {
         sender,
@@ -110,7 +108,7 @@ pub(crate) fn check_forge(block: &Block, seating: &Seating, place: Place) -> Res
 
 /// Why a controller's decision is refused, if it is.
 pub(crate) fn check_decision(block: &Block, controller: usize) -> Result<(), Refusal>
-    ensures { MatchResult result (λ _. decision_refusal (bare block.now) controller ≡ None) (λ why. decision_refusal (bare block.now) controller ≡ Some why) }
+    ensures { TellsWhy (decision_refusal (bare block.now) controller) result }
 {
     if controller >= block.n {
         return Err(Refusal::NoSuchPlace);

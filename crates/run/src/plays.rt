@@ -1,12 +1,7 @@
-ghost use Rattle.std.specs.Prelude.{◌≡◌, ◌<◌, min, map, length, take, drop, slice_set};
+ghost use Rattle.std.specs.Prelude.{◌≡◌, ◌<◌, min, length, take, drop, slice_set};
 ghost use Rattle.models.specs.Laws.{Lawful};
-ghost use Rattle.protocol.specs.Machine.{Idle, needed};
-ghost use Rattle.protocol.specs.Transcripts.{Law, state_after};
-ghost use Rattle.run.specs.Calls.{asked, said};
-ghost use Rattle.run.specs.declared.turns.Turn.{Turn};
-ghost use Rattle.run.specs.Views.{view};
-ghost use Rattle.run.specs.Runs.{setting_over};
-ghost use Rattle.run.specs.Promises.{block_size, replies, log_of, TellsDecisions};
+ghost use Rattle.protocol.specs.Transcripts.{Law};
+ghost use Rattle.run.specs.Promises.{log_of, AreAnswered, TellsDecisions, ShowStateLeft, StayPastBlock};
 
 use crate::calls::{Answer, Call};
 use crate::run::Run;
@@ -31,15 +26,12 @@ pub fn play<K: Kind, M: Model>(
     answers: &mut [Result<Answer<K::Row>, Refusal>],
 ) -> usize
     ensures count { result ≡ min (length calls.now) (length answers.old) }
-    ensures answers { map (said K.rules K.plain) (take result answers.new)
-        ≡ replies (setting_over K.rules cells.old) (M.meaning model.now) (map (asked K.rules K.plain) (take result calls.now)) }
+    ensures answers { AreAnswered K.rules K.plain cells.old (M.meaning model.now) (take result calls.now) (take result answers.new) }
     ensures law { Lawful (M.meaning model.now) → Law (M.meaning model.now) (log_of K.rules K.plain (take result calls.now) (take result answers.new)) }
     ensures decided { TellsDecisions K.rules K.plain result calls.now answers.new }
     ensures rest { drop result answers.new ≡ drop result answers.old }
-    ensures left { (turn : Turn) × (view K.rules K.plain turn cells.new
-        ≡ state_after (setting_over K.rules cells.old) (M.meaning model.now) Idle (map (asked K.rules K.plain) (take result calls.now))) }
-    ensures past { let n = block_size (state_after (setting_over K.rules cells.old) (M.meaning model.now) Idle (map (asked K.rules K.plain) (take result calls.now)))
-        in drop (needed n) cells.new ≡ drop (needed n) cells.old }
+    ensures left { ShowStateLeft K.rules K.plain cells.old (M.meaning model.now) (take result calls.now) cells.new }
+    ensures past { StayPastBlock K.rules K.plain cells.old (M.meaning model.now) (take result calls.now) cells.new }
 {
     // This does nothing; it is the theorem that `law` rests on.
     decisions_agree();

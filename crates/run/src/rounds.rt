@@ -1,8 +1,7 @@
 ghost use Rattle.std.specs.Prelude.{◌≡◌, ℕ, suc, ◌+◌, ◌*◌, ◌<◌, ◌≤◌, length, Some, None, slice_index_or};
 ghost use Rattle.values.specs.Cells.{seen, winning};
-ghost use Rattle.protocol.specs.Stages.{coordinator_of};
-ghost use Rattle.protocol.specs.Rounds.{chosen, proposed, maintained, candidate, settled};
-ghost use Rattle.run.specs.Hearing.{hears, IsWithin};
+ghost use Rattle.protocol.specs.Rounds.{chosen, proposed, maintained, decided};
+ghost use Rattle.run.specs.Hearing.{hears, Computes, IsWithin};
 
 use crate::choosing::{chosen, held_by, settled};
 use crate::hearing::Sent;
@@ -19,7 +18,7 @@ fn vote<K: Kind>(
 )
     requires column { length column.old ≡ sent.now.n }
     requires next { length next.old ≡ sent.now.n }
-    ensures { (i : ℕ) → i < sent.now.n → seen K.rules K.plain next.new i ≡ chosen quorum.at_least quorum.otherwise_at_most (λ j. hears sent.now i j 0) sent.now.n }
+    ensures { Computes sent.now (λ heard. chosen quorum.at_least quorum.otherwise_at_most (λ j. heard j 0) sent.now.n) next.new }
 {
     for receiver in 0..sent.n {
         sent.hear_senders(receiver, 0, column);
@@ -38,7 +37,7 @@ pub(crate) fn propose<K: Kind>(
     requires few { counts.b ≤ sent.now.n }
     requires column { length column.old ≡ sent.now.n }
     requires next { length next.old ≡ sent.now.n }
-    ensures { (i : ℕ) → i < sent.now.n → seen K.rules K.plain next.new i ≡ proposed sent.now.n counts (λ j. hears sent.now i j 0) }
+    ensures { Computes sent.now (λ heard. proposed sent.now.n counts (λ j. heard j 0)) next.new }
 {
     let quorum = Quorum {
         at_least: sent.n - counts.b,
@@ -57,7 +56,7 @@ pub(crate) fn maintain<K: Kind>(
     requires few { counts.b ≤ sent.now.n }
     requires column { length column.old ≡ sent.now.n }
     requires next { length next.old ≡ sent.now.n }
-    ensures { (i : ℕ) → i < sent.now.n → seen K.rules K.plain next.new i ≡ maintained sent.now.n counts (λ j. hears sent.now i j 0) }
+    ensures { Computes sent.now (λ heard. maintained sent.now.n counts (λ j. heard j 0)) next.new }
 {
     let quorum = held_by(sent.n - counts.b, column.len());
     vote(sent, quorum, column, next);
@@ -121,7 +120,7 @@ pub(crate) fn decide<K: Kind>(
     requires column { length column.old ≡ sent.now.n }
     requires cells { length cells.old ≡ sent.now.n }
     requires next { length next.old ≡ sent.now.n }
-    ensures { (i : ℕ) → i < sent.now.n → seen K.rules K.plain next.new i ≡ Some (settled sent.now.n counts K.rules.fallback (candidate sent.now.n counts (hears sent.now i)) (hears sent.now i (coordinator_of phase))) }
+    ensures { Computes sent.now (λ heard. Some (decided (record { n = sent.now.n; counts = counts; fallback = K.rules.fallback }) phase heard)) next.new }
 {
     for receiver in 0..sent.n {
         let places = candidates(sent, receiver, counts, column);

@@ -27,14 +27,12 @@ pub struct Run<'a, K: Kind> {
 
 impl<'a, K: Kind> Run<'a, K> {
     ghost use Rattle.std.specs.Prelude.{◌≡◌, MatchResult, IfErr};
-    ghost use Rattle.values.specs.Cells.{shows};
-    ghost use Rattle.models.specs.Laws.{Meaning};
     ghost use Rattle.run.specs.Dues.{IsOpen, IsDue};
     ghost use Rattle.run.specs.Promises.{ClosesAnyRound, Published, PublishedAfter};
     ghost use Rattle.run.specs.Standing.{LawWith};
     ghost use Rattle.protocol.specs.Machine as machine;
     ghost use Rattle.run.specs.Calls.{asked, said, said_done, said_cell};
-    ghost use Rattle.run.specs.Runs.{setting_over, setting, state, Unaltered, Performs};
+    ghost use Rattle.run.specs.Runs.{setting_over, setting, state, Unaltered, Performs, PerformsAnyway, Answers};
 
     /// A new run over the cells, which stay as they are.
     pub fn new(cells: &'a mut [Cell<K::Row>]) -> Run<'a, K>
@@ -52,8 +50,7 @@ impl<'a, K: Kind> Run<'a, K> {
     // A call that comes at its turn, with what it finds there, or its refusal where it does not. It is here alone that a call
     // meets the turn.
     fn due<'c>(&self, call: Call<'c, K::Row>) -> Result<Due<'c, K::Row>, Refusal>
-        ensures { MatchResult result (λ due. IsDue call.entry self.now.turn due)
-            (λ why. (m : Meaning) → (state self.now, machine.Refused why) ≡ machine.step (setting self.now) m (state self.now) (asked K.rules K.plain call.entry)) }
+        ensures { MatchResult result (λ due. IsDue call.entry self.now.turn due) (λ why. Answers self.now (asked K.rules K.plain call.entry) (machine.Refused why)) }
     {
         match (call, self.turn) {
             (Call::Open(opening), Turn::Idle) => Ok(Due::Open(opening)),
@@ -101,7 +98,7 @@ impl<'a, K: Kind> Run<'a, K> {
         cell: Cell<K::Row>,
     ) -> Result<(), Refusal>
         requires { self.now.turn ≡ Turn.Seated block seating }
-        ensures { (m : Meaning) → Performs m (asked K.rules K.plain (Call.Forge place cell)) (said_done K.rules K.plain result) self.old self.new }
+        ensures { PerformsAnyway (asked K.rules K.plain (Call.Forge place cell)) (said_done K.rules K.plain result) self.old self.new }
     {
         check_forge(&block, &seating, place)?;
         put_forged(self.cells, block.n, place, cell);
@@ -111,7 +108,7 @@ impl<'a, K: Kind> Run<'a, K> {
     // A close of a round that is seated. None is refused.
     fn close_seated(&mut self, block: Block, seating: Seating)
         requires { self.now.turn ≡ Turn.Seated block seating }
-        ensures { (m : Meaning) → Performs m machine.Close machine.Done self.old self.new }
+        ensures { PerformsAnyway machine.Close machine.Done self.old self.new }
     {
         closing::close::<K>(self.cells, &block, &seating);
         self.turn = Turn::Waiting(block.closed(seating.set));
@@ -120,7 +117,7 @@ impl<'a, K: Kind> Run<'a, K> {
     // A decision of a block that waits or is seated.
     fn decision_of(&self, block: Block, controller: usize) -> Result<Cell<K::Row>, Refusal>
         requires { IsOpen block self.now.turn }
-        ensures { (m : Meaning) → (state self.now, said_cell K.rules K.plain result) ≡ machine.step (setting self.now) m (state self.now) (machine.Decision controller) }
+        ensures { Answers self.now (machine.Decision controller) (said_cell K.rules K.plain result) }
     {
         check_decision(&block, controller)?;
         Ok(decision_at::<K>(self.cells, block.n, controller))
@@ -178,7 +175,7 @@ impl<'a, K: Kind> Run<'a, K> {
 
     /// Puts a cell, filled or empty, at a place of a forged message.
     pub fn forge(&mut self, place: Place, cell: Cell<K::Row>) -> Result<(), Refusal>
-        ensures performed { (m : Meaning) → Performs m (machine.Forge place.sender place.receiver place.column (shows K.rules K.plain cell)) (said_done K.rules K.plain result) self.old self.new }
+        ensures performed { PerformsAnyway (asked K.rules K.plain (Call.Forge place cell)) (said_done K.rules K.plain result) self.old self.new }
         ensures refused { IfErr result (λ _. Unaltered self.old self.new) }
         ensures stays { setting self.new ≡ setting self.old }
     {
@@ -191,7 +188,7 @@ impl<'a, K: Kind> Run<'a, K> {
 
     /// Ends a round: every unseated controller computes from what was sent. It is refused only where no round is seated.
     pub fn close(&mut self) -> Result<(), Refusal>
-        ensures performed { (m : Meaning) → Performs m machine.Close (said_done K.rules K.plain result) self.old self.new }
+        ensures performed { PerformsAnyway machine.Close (said_done K.rules K.plain result) self.old self.new }
         ensures any_counts { ClosesAnyRound (setting self.old) (state self.old) (state self.new) }
         ensures published { Published (setting self.old) (state self.old) (state self.new) }
         ensures after_calls { PublishedAfter self.old self.new }
@@ -212,9 +209,10 @@ impl<'a, K: Kind> Run<'a, K> {
         Ok(())
     }
 
-    /// The decision of a controller.
+    /// The decision cell of a controller: empty, or a row. A row may be one that breaks its kind's rule, where such a row was
+    /// forged; it then stands for the fallback. `K::value(&row)` is the value that it means, and `same_value` compares two.
     pub fn decision(&self, controller: usize) -> Result<Cell<K::Row>, Refusal>
-        ensures performed { (m : Meaning) → Performs m (machine.Decision controller) (said_cell K.rules K.plain result) self.now self.now }
+        ensures performed { PerformsAnyway (machine.Decision controller) (said_cell K.rules K.plain result) self.now self.now }
         ensures law { LawWith self.now (machine.Decision controller) (said_cell K.rules K.plain result) }
     {
         // This does nothing; it is the theorem that `law` rests on.

@@ -1,9 +1,8 @@
-ghost use Rattle.std.specs.Prelude.{◌≡◌, ◌+◌, ◌*◌, ◌<◌, ◌≤◌, length, map, None, replicate, drop, slice_set};
+ghost use Rattle.std.specs.Prelude.{◌≡◌, ◌+◌, ◌*◌, ◌<◌, ◌≤◌, length, None, replicate, drop};
 ghost use Rattle.values.specs.Cells.{shows};
-ghost use Rattle.values.specs.Rules.{means};
-ghost use Rattle.protocol.specs.Machine.{needed, started};
-ghost use Rattle.run.specs.Stores.{store};
-ghost use Rattle.run.specs.Views.{kept_in};
+ghost use Rattle.protocol.specs.Machine.{needed};
+ghost use Rattle.run.specs.Stores.{store, with_forged};
+ghost use Rattle.run.specs.Views.{kept_in, AreStarted};
 
 use crate::calls::{Opening, Place};
 use crate::layout::parts;
@@ -25,7 +24,7 @@ pub(crate) fn fill_opened<K: Kind>(cells: &mut [Cell<K::Row>], opening: Opening<
     requires roomy { needed opening.n ≤ length cells.old }
     requires proposals { length opening.proposals.now ≡ opening.n }
     ensures forged { (store opening.entry.n cells.new).forged ≡ replicate (opening.entry.n * opening.entry.n * opening.entry.n) None }
-    ensures kept { kept_in K.rules K.plain opening.entry.n (store opening.entry.n cells.new) ≡ started (map (means K.rules K.plain) opening.entry.proposals.now) opening.entry.initial.0 }
+    ensures kept { AreStarted K.rules K.plain opening.entry cells.new }
     ensures past { drop (needed opening.entry.n) cells.new ≡ drop (needed opening.entry.n) cells.old }
 {
     let Opening {
@@ -65,7 +64,7 @@ pub(crate) fn put_forged<R: Copy>(cells: &mut [Cell<R>], n: usize, place: Place,
     requires sender { place.sender < n }
     requires receiver { place.receiver < n }
     requires column { place.column < n }
-    ensures store { store n cells.new ≡ record (store n cells.old) { forged = slice_set (store n cells.old).forged ((place.sender * n + place.receiver) * n + place.column) cell } }
+    ensures store { store n cells.new ≡ with_forged n place cell (store n cells.old) }
     ensures past { drop (needed n) cells.new ≡ drop (needed n) cells.old }
 {
     parts!(let (forged, _, _, _, _) = cells.split_at_mut(n));

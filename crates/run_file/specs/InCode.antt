@@ -1,5 +1,5 @@
 -- What lies in code, as the format has it, and what private functions promise. Assumes nothing.
-use Rattle.std.specs.Prelude.{◌≡◌, ℕ, suc, ◌+◌, ◌^◌, ◌<◌, ◌≤◌, true, List, [], ◌∷◌, ◌++◌, map, length, take, drop, codes, Some, None, Option, Result, Ok, Err, MatchResult, ⊤}
+use Rattle.std.specs.Prelude.{◌≡◌, ℕ, suc, ◌+◌, ◌^◌, ◌<◌, ◌≤◌, true, List, [], ◌∷◌, ◌++◌, map, length, take, codes, Some, None, Option, Result, Ok, Err, MatchResult, ⊤}
 use Rattle.values.specs.declared.kinds.Kind.{Ghosts}
 use Rattle.values.specs.declared.refusals.Refusal.{Refusal}
 use Rattle.values.specs.Rules.{Rules, means, words, text}
@@ -33,10 +33,6 @@ pub record IsFirst (all : Pieces) (first : List ℕ) (rest : Pieces) : Type 0 wh
   pub bytes : length first ≡ all.width
   pub width : rest.width ≡ all.width
   pub count : all.count ≡ rest.count + 1
-
--- it is refused exactly if there is a refusal, and with that one
-abbrev pub TellsWhy : {A : Type 0} → Option Refusal → Result A Refusal → Type 0
-TellsWhy refusal result = MatchResult result (λ _. refusal ≡ None) (λ why. refusal ≡ Some why)
 
 -- a line in code is this line of the format
 pub record IsLine {V R : Type 0} (k : Rules) (plain : R → List ℕ) (x : Line V R) (is : format.Line) : Type 0 where
@@ -98,10 +94,6 @@ calls_in h p = opens h p ∷ rounds_in p.sets p.lines
 -- how many cells the block needs that is opened so
 abbrev pub cells_for : Setting → Meaning → Header → Parts → ℕ
 cells_for x m h p = needed (block_size (step x m Idle (opens h p).call).0)
-
--- past the first so many all is as it was
-abbrev pub StaysPast : {X : Type 0} → ℕ → (before after : List X) → Type 0
-StaysPast n before after = drop n after ≡ drop n before
 
 -- none of the lines of a file with so many rounds is refused after a line of this round
 abbrev pub Checked : Rules → (rounds round : ℕ) → List format.Line → Type 0

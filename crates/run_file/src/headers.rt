@@ -36,10 +36,11 @@ pub struct Header {
     pub forgeries_at: u16,
 }
 
-// A run file has so many bytes at least, and so many at most.
+// A run file has so many bytes at least.
 const LEAST_BYTES: usize = 16;
 
-const MOST_BYTES: usize = 65535;
+/// A run file has no more bytes.
+pub const MOST_BYTES: usize = 65535;
 
 impl ValueKind {
     ghost use Rattle.std.specs.Prelude.{◌≡◌};

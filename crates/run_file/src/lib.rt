@@ -12,5 +12,6 @@ mod texts;
 mod votes;
 mod words;
 
-pub use listings::{Listing, list};
+pub use headers::MOST_BYTES;
+pub use listings::{LEAST_ROOM, Listing, list};
 pub use stops::Stop;

@@ -1,6 +1,7 @@
 ghost use Rattle.std.specs.Prelude.{◌≡◌, ◌≤◌, length, IfOk};
+ghost use Rattle.values.specs.Refusals.{TellsWhy};
 ghost use Rattle.run_file.specs.Lines.{all_zero, line, line_refusal};
-ghost use Rattle.run_file.specs.InCode.{TellsWhy, IsLine};
+ghost use Rattle.run_file.specs.InCode.{IsLine};
 
 use crate::words::word;
 use run::Place;

@@ -6,11 +6,11 @@ ghost use Rattle.run_file.specs.InCode.{IsListedOr, Fits, Becomes, BecomesVote};
 ghost use Rattle.run_file.specs.declared.headers.ValueKind.TheVariants as ValueKind;
 
 use crate::headers::{Header, ValueKind};
-use crate::reading::{MOST_CONTROLLERS, read_parts};
+use crate::reading::read_parts;
 use crate::stops::Stop;
 use crate::texts::{write_controllers, write_first_line, write_refused_line};
 use crate::votes::perform;
-use models::{LawfulModel, Model, Stamped};
+use models::{LawfulModel, MOST_CONTROLLERS, Model, Stamped};
 use protocol::decisions_agree;
 use run::Run;
 use values::{Buffer, Cell, Kind, Refusal, Setpoint, Shares, Sheet};
@@ -34,8 +34,8 @@ impl Listing {
     }
 }
 
-// A text buffer has so many bytes at least; no listing is longer.
-const LEAST_ROOM: usize = 512;
+/// A text buffer has so many bytes at least; no listing is longer.
+pub const LEAST_ROOM: usize = 512;
 
 // Lists a file under a model: checks its values and lines, performs the run that it tells, and writes what the
 // controllers hold then. Nothing is written of a file that is refused.

@@ -30,7 +30,8 @@ impl<'f> Parts<'f> {
     ghost use Rattle.values.specs.declared.refusals.Refusal.TheVariants.{Layout};
     ghost use Rattle.protocol.specs.Machine.{◌when◌};
     ghost use Rattle.run_file.specs.Files.{laid_out};
-    ghost use Rattle.run_file.specs.InCode.{TellsWhy, IsParted};
+    ghost use Rattle.values.specs.Refusals.{TellsWhy};
+    ghost use Rattle.run_file.specs.InCode.{IsParted};
 
     /// The parts of a file, if its offsets and its length are what the counts give for values of a width.
     pub(crate) fn of(file: &'f [u8], header: &Header, width: usize) -> Result<Parts<'f>, Refusal>

@@ -1,16 +1,15 @@
 ghost use Rattle.std.specs.Prelude.{◌≤◌, OnOk};
+ghost use Rattle.values.specs.Refusals.{TellsWhy};
 ghost use Rattle.run_file.specs.Files.{proposals_refusal};
 ghost use Rattle.run_file.specs.Lines.{lines_refusal};
-ghost use Rattle.run_file.specs.InCode.{pieces_of, lines_in, TellsWhy, HasRows, ReadsParts};
+ghost use Rattle.run_file.specs.InCode.{pieces_of, lines_in, HasRows, ReadsParts};
 
 use crate::headers::Header;
 use crate::lines::Line;
 use crate::parts::Parts;
 use crate::pieces::Pieces;
+use models::MOST_CONTROLLERS;
 use values::{Kind, Refusal};
-
-/// No block has more controllers.
-pub(crate) const MOST_CONTROLLERS: usize = 16;
 
 // Reads the proposals into rows, or tells why they are refused. Of a larger block the first 16 will do, since no open takes it.
 fn read_proposals<K: Kind>(

@@ -4,16 +4,16 @@ ghost use Rattle.protocol.specs.Machine.{Idle, step};
 ghost use Rattle.run.specs.Turns.{size_of};
 ghost use Rattle.run.specs.Runs.{setting, state, Keeps};
 ghost use Rattle.run_file.specs.Votes.{forges, lines_of, round_of};
-ghost use Rattle.run_file.specs.InCode.{stop_at, HasRows, lines_in, Checked, AreLater, IsNext, Leaves, opens, rounds_in, calls_in, cells_for, StaysPast, RunsThrough, RunsToEnd};
+ghost use Rattle.run_file.specs.Promises.{StaysPast};
+ghost use Rattle.run_file.specs.InCode.{stop_at, HasRows, lines_in, Checked, AreLater, IsNext, Leaves, opens, rounds_in, calls_in, cells_for, RunsThrough, RunsToEnd};
 
 use crate::headers::Header;
 use crate::lines::Line;
 use crate::parts::Parts;
 use crate::pieces::Pieces;
-use crate::reading::MOST_CONTROLLERS;
 use crate::stops::Stop;
 use crate::words::word;
-use models::{Model, Set};
+use models::{MOST_CONTROLLERS, Model, Set};
 use run::{Opening, Run};
 use values::{Kind, Refusal};
 

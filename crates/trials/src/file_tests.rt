@@ -1,5 +1,6 @@
 use crate::helpers::shares;
 use models::Standard;
+use run::MOST_CELLS;
 use run_file::{Listing, Stop, list};
 use std::process::Abort;
 use std::test::Fail;
@@ -47,7 +48,7 @@ fn leaves_cells(file: &[u8], number: u8) -> bool {
 
 // Whether a file is listed with this text and number, and the bytes past the text stay.
 fn lists(file: &[u8], expected: &[u8], number: u8) -> bool {
-    let mut setpoints = [None; 4688];
+    let mut setpoints = [None; MOST_CELLS];
     let mut sheets = [None; 8];
     let mut text = [7; 512];
     let listing = list(file, &mut setpoints, &mut sheets, &mut text);

@@ -34,7 +34,10 @@ fn each_refusal_has_its_own_words(rt: HostRuntime) {
     for (refusal, _, own) in REFUSALS {
         for (other, number, _) in REFUSALS {
             let has = other.meaning().contains(*own);
-            assert!(rt; has == (*other == *refusal), "{own} in the words of {number}");
+            assert!(rt;
+                has == (*other == *refusal),
+                "{own} in the words of {number}"
+            );
         }
     }
 }

@@ -2,7 +2,7 @@ use crate::helpers::Step::{Close, Decision, Forge, Open, Seat};
 use crate::helpers::{DONE, Outcome, Step, ask, follow, perform};
 use models::Standard;
 use run::Answer::Decided;
-use run::Run;
+use run::{MOST_CELLS, Run};
 use values::Setpoint;
 
 // Where several refusals apply, the first in the order of the checks is given; what else a call breaks stands beside it.
@@ -54,7 +54,7 @@ fn open_refuses_in_order(rt: HostRuntime) {
 #[test]
 fn the_largest_block_has_16(rt: HostRuntime) {
     let model = Standard::Unaware;
-    let mut cells = [None; 4688];
+    let mut cells = [None; MOST_CELLS];
     let mut small = Run::<Setpoint>::new(&mut cells[..4687]);
     assert_eq!(rt; ask(&mut small, &model, Open(16, 3, &[500; 16], 0)), Err(4));
     let mut run = Run::<Setpoint>::new(&mut cells);

@@ -1,5 +1,5 @@
 -- The number by which people know each refusal, and what its words are.
-use Rattle.std.specs.Prelude.{◌≡◌, ℕ, ◌<◌, true, List, length, ◌&&◌, nat_le}
+use Rattle.std.specs.Prelude.{◌≡◌, ℕ, ◌<◌, true, List, length, ◌&&◌, nat_le, Some, None, Option, Result, MatchResult}
 use Rattle.std.specs.List.{list_all}
 use Rattle.values.specs.declared.refusals.Refusal.{Refusal}
 use Rattle.values.specs.declared.refusals.Refusal.TheVariants.{
@@ -47,3 +47,11 @@ number_of TextRoom = 26
 pub record IsOneLine (words : List ℕ) : Type 0 where
   pub some : 0 < length words
   pub plain : list_all (λ b. nat_le 32 b && nat_le b 126) words ≡ true
+
+-- it is refused exactly if there is a refusal, and with that one
+abbrev pub TellsWhy : {A : Type 0} → Option Refusal → Result A Refusal → Type 0
+TellsWhy refusal result = MatchResult result (λ _. refusal ≡ None) (λ why. refusal ≡ Some why)
+
+-- where there is a refusal it is that one, and else something is found that is as asked for
+abbrev pub FindsOr : {A : Type 0} → (Found : A → Type 0) → Option Refusal → Result A Refusal → Type 0
+FindsOr Found refusal result = MatchResult result Found (λ why. refusal ≡ Some why)

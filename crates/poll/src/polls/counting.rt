@@ -6,6 +6,7 @@ ghost use Rattle.values.specs.Setpoints.{tenths_of};
 ghost use Rattle.poll.specs.Polls.{pieces, proposed, cells_of, sized, shown, unseen, counted, standings_of, told, Polled};
 
 use crate::polls::{Fault, Poll, Standing};
+use models::MOST_CONTROLLERS;
 use std::alloc::{AllocError, Global};
 use values::{Cell, Kind, Refusal, Setpoint, tally};
 
@@ -26,11 +27,11 @@ fn controllers(input: &[u8]) -> usize
     input.len().div_ceil(Setpoint::WIDTH)
 }
 
-// A block has 1 to 16 controllers.
+// A block has a controller at least, and not too many.
 fn check_size(n: usize) -> Result<(), Refusal>
     ensures { result ≡ sized n }
 {
-    if (1..=16).contains(&n) {
+    if (1..=MOST_CONTROLLERS).contains(&n) {
         Ok(())
     } else {
         Err(Refusal::BlockSize)
