@@ -20,6 +20,13 @@ store n cells = record {
   decisions = take n (drop n (drop (n * n) (drop (n * n * n) cells)));
 }
 
+-- how many cells those are, and how many there are to work in
+abbrev pub kept_cells : ℕ → ℕ
+kept_cells n = n * n * n + n * n + 2 * n
+
+abbrev pub work_cells : ℕ → ℕ
+work_cells n = n * n + 3 * n
+
 -- a cell at the place of a forged message's column
 abbrev pub with_forged : {R : Type 0} → (n : ℕ) → Place → Option R → Store R → Store R
 with_forged n place cell s = record s { forged = slice_set s.forged ((place.sender * n + place.receiver) * n + place.column) cell }

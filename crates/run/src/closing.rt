@@ -3,7 +3,7 @@ ghost use Rattle.values.specs.Cells.{seen};
 ghost use Rattle.models.specs.Sets.{has};
 ghost use Rattle.protocol.specs.Rounds.{blank};
 ghost use Rattle.protocol.specs.Machine.{needed};
-ghost use Rattle.run.specs.Stores.{store};
+ghost use Rattle.run.specs.Stores.{store, kept_cells, work_cells};
 ghost use Rattle.run.specs.Views.{kept_in};
 ghost use Rattle.run.specs.Closing.{left, Renews, Empties};
 
@@ -24,8 +24,8 @@ fn renew<K: Kind>(
     work: &mut [Cell<K::Row>],
 )
     requires limit { block.now.round < MOST_ROUNDS }
-    requires kept { length kept.old ≡ block.now.n * block.now.n * block.now.n + block.now.n * block.now.n + 2 * block.now.n }
-    requires work { length work.old ≡ block.now.n * block.now.n + 3 * block.now.n }
+    requires kept { length kept.old ≡ kept_cells block.now.n }
+    requires work { length work.old ≡ work_cells block.now.n }
     ensures { Renews K.rules K.plain block.now seating.now kept.old kept.new }
 {
     let n = block.n;
@@ -78,7 +78,7 @@ fn clear_row<K: Kind>(n: usize, controller: usize, rows: &mut [Cell<K::Row>])
 // A seated controller is left with all its cells empty.
 fn empty<K: Kind>(n: usize, set: Set, kept: &mut [Cell<K::Row>])
     requires size { n ≤ MOST_CONTROLLERS }
-    requires kept { length kept.old ≡ n * n * n + n * n + 2 * n }
+    requires kept { length kept.old ≡ kept_cells n }
     ensures { Empties K.rules K.plain n set.0 kept.old kept.new }
 {
     parts!(let (_, rows, v, decisions, _) = kept.split_at_mut(n));

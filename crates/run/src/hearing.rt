@@ -10,12 +10,19 @@ use values::{Cell, Kind};
 /// What was sent in a round, as it lies in the cells.
 #[derive(Drop)]
 pub struct Sent<'s, K: Kind> {
+    /// The number of controllers.
     pub n: usize,
+    /// What the round is for.
     pub stage: Stage,
+    /// How each controller sends.
     pub classes: [Class; MOST_CONTROLLERS],
+    /// The forged cells, by sender, receiver and column.
     pub forged: &'s [Cell<K::Row>],
+    /// What each controller noted, by controller and column.
     pub rows: &'s [Cell<K::Row>],
+    /// The v of each controller.
     pub v: &'s [Cell<K::Row>],
+    /// The decision of each controller.
     pub decisions: &'s [Cell<K::Row>],
     ghost size: { n ≤ MOST_CONTROLLERS },
     ghost forged_size: { length forged.now ≡ n * n * n },
@@ -29,7 +36,7 @@ impl<'s, K: Kind> Sent<'s, K> {
     ghost use Rattle.values.specs.Cells.{shows, seen};
     ghost use Rattle.protocol.specs.Stages.{columns_of};
     ghost use Rattle.protocol.specs.Rounds.{at_place, sends};
-    ghost use Rattle.run.specs.Stores.{store};
+    ghost use Rattle.run.specs.Stores.{store, kept_cells};
     ghost use Rattle.run.specs.Hearing.{store_of, kept_by, hears, IsWithin};
 
     /// What was sent in a round of so many controllers, from the cells that they kept and those that are forged.
@@ -40,7 +47,7 @@ impl<'s, K: Kind> Sent<'s, K> {
         cells: &'s [Cell<K::Row>],
     ) -> Sent<'s, K>
         requires size { n ≤ MOST_CONTROLLERS }
-        requires cells { n * n * n + n * n + 2 * n ≤ length cells.now }
+        requires cells { kept_cells n ≤ length cells.now }
         ensures round { (result.n ≡ n) × (result.stage ≡ stage) × (result.classes ≡ classes) }
         ensures store { store_of result ≡ store n cells.now }
     {

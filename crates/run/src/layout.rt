@@ -1,5 +1,6 @@
-ghost use Rattle.std.specs.Prelude.{◌≡◌, ◌+◌, ◌*◌, ◌≤◌, min};
+ghost use Rattle.std.specs.Prelude.{◌≡◌, ◌≤◌, min};
 ghost use Rattle.protocol.specs.Machine.{needed};
+ghost use Rattle.run.specs.Stores.{kept_cells, work_cells};
 
 use models::MOST_CONTROLLERS;
 
@@ -18,7 +19,7 @@ pub fn needed(n: usize) -> usize
 /// How many cells are kept from call to call: those of the parts.
 pub(crate) fn kept_cells(n: usize) -> usize
     requires { n ≤ MOST_CONTROLLERS }
-    ensures { result ≡ n * n * n + n * n + 2 * n }
+    ensures { result ≡ kept_cells n }
 {
     n * n * n + n * n + 2 * n
 }
@@ -26,7 +27,7 @@ pub(crate) fn kept_cells(n: usize) -> usize
 /// How many cells a close works in; they lie behind those that are kept.
 pub(crate) fn work_cells(n: usize) -> usize
     requires { n ≤ MOST_CONTROLLERS }
-    ensures { result ≡ n * n + 3 * n }
+    ensures { result ≡ work_cells n }
 {
     n * n + 3 * n
 }

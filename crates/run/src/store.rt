@@ -1,7 +1,7 @@
 ghost use Rattle.std.specs.Prelude.{◌≡◌, ◌+◌, ◌*◌, ◌<◌, ◌≤◌, length, None, replicate, drop};
 ghost use Rattle.values.specs.Cells.{shows};
 ghost use Rattle.protocol.specs.Machine.{needed};
-ghost use Rattle.run.specs.Stores.{store, with_forged};
+ghost use Rattle.run.specs.Stores.{store, kept_cells, with_forged};
 ghost use Rattle.run.specs.Views.{kept_in, AreStarted};
 
 use crate::calls::{Opening, Place};
@@ -74,7 +74,7 @@ pub(crate) fn put_forged<R: Copy>(cells: &mut [Cell<R>], n: usize, place: Place,
 /// Puts the rows of all controllers.
 pub(crate) fn put_rows<R: Copy>(cells: &mut [Cell<R>], n: usize, new: &[Cell<R>])
     requires size { n ≤ MOST_CONTROLLERS }
-    requires roomy { n * n * n + n * n + 2 * n ≤ length cells.old }
+    requires roomy { kept_cells n ≤ length cells.old }
     requires new { length new.now ≡ n * n }
     ensures { store n cells.new ≡ record (store n cells.old) { rows = new.now } }
 {
@@ -85,7 +85,7 @@ pub(crate) fn put_rows<R: Copy>(cells: &mut [Cell<R>], n: usize, new: &[Cell<R>]
 /// Puts the v of all controllers.
 pub(crate) fn put_v<R: Copy>(cells: &mut [Cell<R>], n: usize, new: &[Cell<R>])
     requires size { n ≤ MOST_CONTROLLERS }
-    requires roomy { n * n * n + n * n + 2 * n ≤ length cells.old }
+    requires roomy { kept_cells n ≤ length cells.old }
     requires new { length new.now ≡ n }
     ensures { store n cells.new ≡ record (store n cells.old) { v = new.now } }
 {
@@ -96,7 +96,7 @@ pub(crate) fn put_v<R: Copy>(cells: &mut [Cell<R>], n: usize, new: &[Cell<R>])
 /// Puts the decisions of all controllers.
 pub(crate) fn put_decisions<R: Copy>(cells: &mut [Cell<R>], n: usize, new: &[Cell<R>])
     requires size { n ≤ MOST_CONTROLLERS }
-    requires roomy { n * n * n + n * n + 2 * n ≤ length cells.old }
+    requires roomy { kept_cells n ≤ length cells.old }
     requires new { length new.now ≡ n }
     ensures { store n cells.new ≡ record (store n cells.old) { decisions = new.now } }
 {
@@ -107,7 +107,7 @@ pub(crate) fn put_decisions<R: Copy>(cells: &mut [Cell<R>], n: usize, new: &[Cel
 /// Empties the decisions of all controllers.
 pub(crate) fn clear_decisions<R: Copy>(cells: &mut [Cell<R>], n: usize)
     requires size { n ≤ MOST_CONTROLLERS }
-    requires roomy { n * n * n + n * n + 2 * n ≤ length cells.old }
+    requires roomy { kept_cells n ≤ length cells.old }
     ensures { store n cells.new ≡ record (store n cells.old) { decisions = replicate n None } }
 {
     parts!(let (_, _, _, decisions, _) = cells.split_at_mut(n));

@@ -7,7 +7,9 @@ use protocol::MOST_ROUNDS;
 /// A block that was opened.
 #[derive(Clone, Copy)]
 pub struct Block {
+    /// The number of controllers.
     pub n: usize,
+    /// How many of them are seated at one time at most.
     pub t: usize,
     /// The counts of the model named at open.
     pub counts: Counts,
@@ -47,14 +49,19 @@ impl Block {
 /// A round that is not closed yet.
 #[derive(Clone, Copy)]
 pub struct Seating {
+    /// Who is seated.
     pub set: Set,
+    /// How each controller sends, as the model named at seat has it.
     pub classes: [Class; MOST_CONTROLLERS],
 }
 
 /// The turn that a run stands at.
 #[derive(Clone, Copy)]
 pub enum Turn {
+    /// No block is opened.
     Idle,
+    /// A block waits for a seat.
     Waiting(Block),
+    /// A round of the block is seated.
     Seated(Block, Seating),
 }
