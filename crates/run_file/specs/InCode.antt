@@ -6,6 +6,7 @@ use Rattle.values.specs.Rules.{Rules, means, words, text}
 use Rattle.values.specs.Cells.{shows}
 use Rattle.values.specs.declared.buffers.Buffer.{Buffer}
 use Rattle.values.specs.Added.{Puts}
+use Rattle.models.specs.declared.sets.TheConstants.{MOST_CONTROLLERS}
 use Rattle.models.specs.Laws.{Meaning}
 use Rattle.protocol.specs.Machine.{Setting, State, Idle, Open, Decision, Answer, Done, Decided, Refused, needed, step}
 use Rattle.run.specs.declared.run.Run.{Run}
@@ -72,7 +73,7 @@ pub record IsParted (width : ℕ) (h : Header) (bytes : List ℕ) (p : Parts) : 
 
 -- the first rows stand for the proposals, where these are no more than 16
 abbrev pub HasRows : {R : Type 0} → Rules → (R → List ℕ) → Pieces → List R → Type 0
-HasRows k plain proposals rows = proposals.count ≤ 16 → map (means k plain) (take proposals.count rows) ≡ map words (pieces_of proposals)
+HasRows k plain proposals rows = proposals.count ≤ MOST_CONTROLLERS → map (means k plain) (take proposals.count rows) ≡ map words (pieces_of proposals)
 
 -- a file is taken apart and its proposals are read into rows, or it is refused before any call
 abbrev pub ReadsParts : {R : Type 0} → Rules → (R → List ℕ) → Header → List ℕ → List R → Result Parts Refusal → Type 0
@@ -153,7 +154,7 @@ pub record IsListed (k : Rules) (m : Meaning) (cells : ℕ) (h : Header) (bytes 
   pub ends : outcome k m cells h bytes ≡ Ok left
   pub puts : Puts before (listing k m cells h left) after
   pub sound : (i : ℕ) → IsSound k (step (setting_of k cells) m left (Decision i)).1
-  pub small : (h.n ≤ 16) × (h.t < 2 ^ 8) × (h.rounds < 2 ^ 16)
+  pub small : (h.n ≤ MOST_CONTROLLERS) × (h.t < 2 ^ 8) × (h.rounds < 2 ^ 16)
 
 -- a file under a model: it is not refused, and its listing is added; or this is its stop, and nothing is added
 abbrev pub IsListedOr : Rules → Meaning → (cells : ℕ) → Header → (bytes : List ℕ) → Result ⊤ Stop → (before after : Buffer) → Type 0

@@ -126,7 +126,7 @@ fn open_block<K: Kind, M: Model>(
     requires rows { HasRows K.rules K.plain parts.now.proposals proposals.now }
     ensures opened { RunsThrough (M.meaning model.now) (opens header.now parts.now ∷ []) run.old run.new result }
     ensures left { state run.new ≡ (step (setting run.old) (M.meaning model.now) Idle (opens header.now parts.now).call).0 }
-    ensures size { OnOk result ((size_of run.new.turn ≡ header.now.n) × (0 < header.now.n) × (header.now.n ≤ 16)) }
+    ensures size { OnOk result ((size_of run.new.turn ≡ header.now.n) × (0 < header.now.n) × (header.now.n ≤ MOST_CONTROLLERS)) }
     ensures unaltered { IfErr result (λ _. run.new.cells.now ≡ run.old.cells.now) }
     ensures keeps { Keeps run.old run.new }
 {
@@ -155,7 +155,7 @@ pub(crate) fn perform<K: Kind, M: Model>(
     requires lines { (6 ≤ parts.now.lines.width) × Checked K.rules header.now.rounds 0 (lines_in parts.now.lines) }
     ensures performed { RunsToEnd (M.meaning model.now) Idle (calls_in header.now parts.now) run.old run.new result }
     ensures used { StaysPast (cells_for (setting run.old) (M.meaning model.now) header.now parts.now) run.old.cells.now run.new.cells.now }
-    ensures size { OnOk result (header.now.n ≤ 16) }
+    ensures size { OnOk result (header.now.n ≤ MOST_CONTROLLERS) }
     ensures keeps { Keeps run.old run.new }
 {
     open_block(run, model, header, parts, proposals)?;
