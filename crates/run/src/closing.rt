@@ -1,7 +1,5 @@
-ghost use Rattle.std.specs.Prelude.{◌≡◌, ℕ, ◌+◌, ◌*◌, ◌<◌, ◌≤◌, length, if◌then◌else◌, None, [], ◌==◌, drop};
+ghost use Rattle.std.specs.Prelude.{◌≡◌, ℕ, ◌+◌, ◌*◌, ◌<◌, ◌≤◌, length, if◌then◌else◌, None, ◌==◌, drop};
 ghost use Rattle.values.specs.Cells.{seen};
-ghost use Rattle.models.specs.Sets.{has};
-ghost use Rattle.protocol.specs.Rounds.{blank};
 ghost use Rattle.protocol.specs.Machine.{needed};
 ghost use Rattle.run.specs.Stores.{store, kept_cells, work_cells};
 ghost use Rattle.run.specs.Views.{kept_in};

@@ -32,7 +32,7 @@ pub struct Sent<'s, K: Kind> {
 }
 
 impl<'s, K: Kind> Sent<'s, K> {
-    ghost use Rattle.std.specs.Prelude.{ℕ, ◌+◌, ◌<◌, None, slice_index_or};
+    ghost use Rattle.std.specs.Prelude.{ℕ, ◌<◌, None, slice_index_or};
     ghost use Rattle.values.specs.Cells.{shows, seen};
     ghost use Rattle.protocol.specs.Stages.{columns_of};
     ghost use Rattle.protocol.specs.Rounds.{at_place, sends};

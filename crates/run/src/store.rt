@@ -1,4 +1,4 @@
-ghost use Rattle.std.specs.Prelude.{◌≡◌, ◌+◌, ◌*◌, ◌<◌, ◌≤◌, length, None, replicate, drop};
+ghost use Rattle.std.specs.Prelude.{◌≡◌, ◌*◌, ◌<◌, ◌≤◌, length, None, replicate, drop};
 ghost use Rattle.values.specs.Cells.{shows};
 ghost use Rattle.protocol.specs.Machine.{needed};
 ghost use Rattle.run.specs.Stores.{store, kept_cells, with_forged};

@@ -1,4 +1,4 @@
-use Rattle.std.proofs.Common.{◌≡◌, ◌*◌, ◌+◌, ◌<◌, ℕ, refl, sym, ap, subst, ◌∙◌, ◌/◌, Some, None, replicate}
+use Rattle.std.proofs.Common.{◌≡◌, ◌*◌, ◌+◌, ◌<◌, ℕ, refl, sym, subst, ◌∙◌, ◌/◌, Some, None, replicate}
 use Rattle.values.specs.Cells.{seen}
 use Rattle.protocol.specs.Rounds.{proposed, maintained, candidate, settled}
 use Rattle.protocol.specs.Stages.{coordinator_of}

@@ -1,4 +1,4 @@
-use Rattle.std.proofs.Common.{◌≡◌, refl, sym, ap, ◌∙◌, List, Option, arith}
+use Rattle.std.proofs.Common.{refl, sym, ap, ◌∙◌, List, Option, arith}
 use Rattle.run.specs.Stores.{Store}
 use Rattle.run.proofs.Parts.{store_is}
 use Rattle.run.proofs.store.put_v.Goals as goal
