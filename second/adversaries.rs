@@ -5,7 +5,7 @@
 use std::collections::HashSet;
 
 use crate::files::{Draft, LONGEST, line_width};
-use crate::models::{Class, Counts, House, Set};
+use crate::models::{Class, Counts, Model, Set};
 use crate::rng::Rng;
 use crate::runs::{Place, Round, Run};
 use crate::values::{Cell, Kind, Value};
@@ -15,7 +15,7 @@ use crate::votes::{Stage, column_of, holders};
 #[derive(Clone, Copy, Debug)]
 pub struct Frame {
     pub kind: Kind,
-    pub house: House,
+    pub model: Model,
     pub n: usize,
     pub t: usize,
     pub rounds: usize,
@@ -77,12 +77,12 @@ pub fn sound(frame: Frame, style: Style, rng: &Rng) -> Draft {
     let values = palette(frame.kind, rng);
     let proposals = propose(frame, style.proposals, &values, rng);
     let mut set = initial_set(frame, style.seating, rng);
-    let mut draft = Draft::new(frame.kind, frame.house, frame.t, &proposals, set);
-    let mut run = Run::open(frame.house, frame.kind, frame.t, &proposals, set)
+    let mut draft = Draft::new(frame.kind, frame.model, frame.t, &proposals, set);
+    let mut run = Run::open(frame.model, frame.kind, frame.t, &proposals, set)
         .expect("the frame is resilient");
-    let room =
+    let fitting =
         (LONGEST - draft.bytes().len()).saturating_sub(2 * frame.rounds) / line_width(frame.kind);
-    let most_lines = style.lines.min(room);
+    let most_lines = style.lines.min(fitting);
     for number in 0..frame.rounds {
         set = next_set(frame, style.seating, number, set, rng);
         let mut round = run.seat(set).expect("the model allows the move");
@@ -163,7 +163,7 @@ pub fn any_value(kind: Kind, rng: &Rng) -> Value {
 
 fn propose(frame: Frame, proposals: Proposals, values: &[Value], rng: &Rng) -> Vec<Value> {
     let Frame { n, kind, .. } = frame;
-    let Counts { b, l, .. } = frame.house.counts(frame.t);
+    let Counts { b, l, .. } = frame.model.counts(frame.t);
     let holding = match proposals {
         Proposals::Agreed => n,
         Proposals::Edge => (n + 1).saturating_sub(b + rng.below(l + 3)).min(n),
@@ -197,7 +197,7 @@ fn some_set(frame: Frame, rng: &Rng) -> Set {
 /// not allow the move.
 fn next_set(frame: Frame, seating: Seating, round: usize, before: Set, rng: &Rng) -> Set {
     let wanted = wanted_set(frame, seating, round, before, rng);
-    if frame.house.allows(before, wanted) {
+    if frame.model.allows(before, wanted) {
         wanted
     } else {
         before
@@ -315,7 +315,7 @@ fn groups(round: &Round, forging: Forging, rng: &Rng) -> Vec<Group> {
     let aim = aim(round, forging, rng).min(n);
     let mut listeners: Vec<usize> = rng.some_below(n, n);
     // Who is seated forgets what it hears.
-    listeners.sort_by_key(|&listener| round.now.has(listener));
+    listeners.sort_by_key(|&listener| round.after.has(listener));
     let favoured: Set = listeners.into_iter().take(aim).collect();
     let uniform = Group {
         receiver: 0,
@@ -413,7 +413,7 @@ impl<'a> Sculptor<'a> {
     fn new(round: &Round, group: &'a Group, values: &[Value], rng: &Rng) -> Sculptor<'a> {
         let quorums = round.quorums();
         // Uniform senders are heard by all, so any unseated receiver's view serves.
-        let unseated: Vec<usize> = (0..quorums.n).filter(|&i| !round.now.has(i)).collect();
+        let unseated: Vec<usize> = (0..quorums.n).filter(|&i| !round.after.has(i)).collect();
         let uniform = round.classes[group.senders[0]] == Class::Uniform;
         let view = if uniform {
             rng.pick(&unseated)

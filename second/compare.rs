@@ -8,12 +8,12 @@ use std::process::{Command, Stdio};
 
 use crate::listings::{Held, Listing, Report, list, text};
 use crate::makers::make;
-use crate::models::{House, Model};
+use crate::models::{Base, Model};
 use crate::refusals::{Refusal, Refused};
 use crate::values::Kind;
 
 const MOST_SHOWN: usize = 10;
-/// No listing is longer than 512 bytes; what lies beyond this is not read.
+/// No listing is longer than 512 bytes; what comes after this many is not read.
 const MOST_READ: u64 = 65_536;
 
 pub struct Comparison {
@@ -135,8 +135,8 @@ fn ask(program: &Path, bytes: &[u8]) -> io::Result<Answer> {
     let output = child.stdout.take().expect("standard output is piped");
     let mut text = Vec::new();
     // Written from a thread of its own, so that neither program waits for the
-    // other with a full pipe. A program need not read all: a broken pipe is no
-    // fault, and its answer is judged like any other.
+    // other with a full pipe. A program need not read all: where the pipe
+    // breaks, its answer is judged like any other.
     std::thread::scope(|scope| {
         scope.spawn(move || input.write_all(bytes).ok());
         // Takes the pipe, and so closes it: a program that writes on is stopped.
@@ -152,7 +152,7 @@ fn ask(program: &Path, bytes: &[u8]) -> io::Result<Answer> {
 #[derive(Default)]
 struct Tally {
     refusals: BTreeMap<(Refusal, bool), usize>,
-    listings: BTreeMap<(Kind, House), usize>,
+    listings: BTreeMap<(Kind, Model), usize>,
     with_seated: usize,
     with_none: usize,
     with_decision: usize,
@@ -176,7 +176,7 @@ impl Tally {
     fn count_report(&mut self, report: &Report) {
         *self
             .listings
-            .entry((report.kind, report.house))
+            .entry((report.kind, report.model))
             .or_default() += 1;
         let decisions: Vec<_> = report
             .held
@@ -199,9 +199,9 @@ impl Tally {
         let refusals = reachable()
             .into_iter()
             .filter(|reached| !self.refusals.contains_key(reached));
-        let listings = houses()
+        let listings = kinds_and_models()
             .into_iter()
-            .filter(|house| !self.listings.contains_key(house));
+            .filter(|pair| !self.listings.contains_key(pair));
         let lines = [
             ("upset", self.with_seated),
             ("none", self.with_none),
@@ -210,7 +210,7 @@ impl Tally {
         let lines = lines.into_iter().filter(|&(_, count)| count == 0);
         refusals
             .map(|(refusal, round)| format!("refusal {}", named(refusal, round)))
-            .chain(listings.map(|(kind, house)| format!("a listing of {kind}, {house}")))
+            .chain(listings.map(|(kind, model)| format!("a listing of {kind}, {model}")))
             .chain(lines.map(|(line, _)| format!("a listing with {line}")))
             .collect()
     }
@@ -230,7 +230,7 @@ fn reachable() -> Vec<(Refusal, bool)> {
         Layout,
         ProposalValue,
         LineValue,
-        FaultyLine,
+        FlawedLine,
     ];
     let with = [
         SetMembers,
@@ -246,11 +246,11 @@ fn reachable() -> Vec<(Refusal, bool)> {
         .collect()
 }
 
-fn houses() -> Vec<(Kind, House)> {
+fn kinds_and_models() -> Vec<(Kind, Model)> {
     let all = Kind::ALL
         .into_iter()
-        .flat_map(|kind| Model::ALL.map(|model| (kind, model)));
-    all.flat_map(|(kind, model)| [false, true].map(|stamps| (kind, House { model, stamps })))
+        .flat_map(|kind| Base::ALL.map(|base| (kind, base)));
+    all.flat_map(|(kind, base)| [false, true].map(|stamps| (kind, Model { base, stamps })))
         .collect()
 }
 
@@ -264,8 +264,8 @@ impl fmt::Display for Tally {
         for ((refusal, round), count) in &self.refusals {
             writeln!(f, "  {count:6} refused {}", named(*refusal, *round))?;
         }
-        for ((kind, house), count) in &self.listings {
-            writeln!(f, "  {count:6} listings of {kind}, {house}")?;
+        for ((kind, model), count) in &self.listings {
+            writeln!(f, "  {count:6} listings of {kind}, {model}")?;
         }
         writeln!(f, "  {:6} listings with a decision", self.with_decision)?;
         writeln!(

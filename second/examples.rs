@@ -5,7 +5,7 @@ use std::path::Path;
 
 use crate::files::Draft;
 use crate::listings::{list, text};
-use crate::models::{House, Model, Set};
+use crate::models::{Base, Model, Set};
 use crate::runs::Place;
 use crate::values::{Kind, Value};
 use crate::votes::Stage;
@@ -34,9 +34,9 @@ pub fn all() -> [(&'static str, Draft); 8] {
     ]
 }
 
-fn without_stamps(model: Model) -> House {
-    House {
-        model,
+fn without_stamps(base: Base) -> Model {
+    Model {
+        base,
         stamps: false,
     }
 }
@@ -53,7 +53,7 @@ fn only(controller: usize) -> Set {
 fn two_setpoints() -> Draft {
     let mut draft = Draft::new(
         Kind::Setpoint,
-        without_stamps(Model::Aware),
+        without_stamps(Base::Aware),
         0,
         &setpoints(&[500, 600]),
         Set::EMPTY,
@@ -69,7 +69,7 @@ fn equivocation() -> Draft {
     let proposals = setpoints(&[480, 480, 520, 520]);
     let mut draft = Draft::new(
         Kind::Setpoint,
-        without_stamps(Model::Carried),
+        without_stamps(Base::Carried),
         1,
         &proposals,
         only(3),
@@ -107,7 +107,7 @@ fn sheet_vote() -> Draft {
     ];
     let mut draft = Draft::new(
         Kind::Sheet,
-        without_stamps(Model::Aware),
+        without_stamps(Base::Aware),
         1,
         &[shares; 5],
         only(4),
@@ -124,13 +124,13 @@ fn sheet_vote() -> Draft {
 /// Three controllers bear a wandering upset, since it must tell all the same.
 fn stamps() -> Draft {
     let n = 3;
-    let house = House {
-        model: Model::Carried,
+    let model = Model {
+        base: Base::Carried,
         stamps: true,
     };
     let mut draft = Draft::new(
         Kind::Setpoint,
-        house,
+        model,
         1,
         &setpoints(&[455, 455, 455]),
         only(2),
@@ -150,7 +150,7 @@ fn seated_at_the_end() -> Draft {
     let proposals = setpoints(&[610, 610, 610, 610, 610, 350]);
     let mut draft = Draft::new(
         Kind::Setpoint,
-        without_stamps(Model::Unaware),
+        without_stamps(Base::Unaware),
         1,
         &proposals,
         Set::EMPTY,
@@ -171,7 +171,7 @@ fn no_decision_yet() -> Draft {
     let proposals = setpoints(&[530, 530, 530, 530]);
     let mut draft = Draft::new(
         Kind::Setpoint,
-        without_stamps(Model::Fixed),
+        without_stamps(Base::Fixed),
         1,
         &proposals,
         only(1),
@@ -185,7 +185,7 @@ fn forbidden_move() -> Draft {
     let proposals = setpoints(&[500, 500, 500, 500]);
     let mut draft = Draft::new(
         Kind::Setpoint,
-        without_stamps(Model::Fixed),
+        without_stamps(Base::Fixed),
         1,
         &proposals,
         only(2),
@@ -201,7 +201,7 @@ fn share_too_large() -> Draft {
     let shares = Value::Sheet([400, 300, 200, 100]);
     let mut draft = Draft::new(
         Kind::Sheet,
-        without_stamps(Model::Aware),
+        without_stamps(Base::Aware),
         0,
         &[shares; 2],
         Set::EMPTY,

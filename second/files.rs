@@ -1,6 +1,6 @@
 //! Run files: reading one, and writing one from a draft.
 
-use crate::models::{Class, House, Model, Set};
+use crate::models::{Base, Class, Model, Set};
 use crate::refusals::Refusal;
 use crate::runs::Place;
 use crate::values::{Cell, Kind, Value};
@@ -12,7 +12,7 @@ pub const LONGEST: usize = 65_535;
 /// its calls are accepted is another matter.
 pub struct RunFile {
     pub kind: Kind,
-    pub house: House,
+    pub model: Model,
     pub t: usize,
     pub proposals: Vec<Value>,
     pub initial: Set,
@@ -38,7 +38,7 @@ impl RunFile {
             return Err(Refusal::TooLong);
         }
         let kind = Kind::from_code(bytes[0]).ok_or(Refusal::HeaderCode)?;
-        let house = read_house(bytes)?;
+        let model = read_model(bytes)?;
         let t = usize::from(bytes[4]);
         let layout = Layout::read(kind, bytes);
         if !layout.fits(bytes) {
@@ -50,14 +50,14 @@ impl RunFile {
             .collect::<Result<_, _>>()?;
         let mut all_sets = bytes[layout.sets..layout.lines]
             .chunks_exact(2)
-            .map(|pair| Set(word(pair, 0)));
+            .map(|pair| Set(number_at(pair, 0)));
         // Layout gives R + 1 sets, so there is a first.
         let initial = all_sets.next().unwrap_or_default();
         let sets: Vec<Set> = all_sets.collect();
         let lines = read_lines(kind, sets.len(), &bytes[layout.lines..])?;
         Ok(RunFile {
             kind,
-            house,
+            model,
             t,
             proposals,
             initial,
@@ -68,19 +68,19 @@ impl RunFile {
 }
 
 /// The 16-bit number at `at`, low byte first.
-fn word(bytes: &[u8], at: usize) -> u16 {
+fn number_at(bytes: &[u8], at: usize) -> u16 {
     u16::from_le_bytes([bytes[at], bytes[at + 1]])
 }
 
-fn read_house(bytes: &[u8]) -> Result<House, Refusal> {
-    let model = Model::from_code(bytes[1]).ok_or(Refusal::HeaderCode)?;
+fn read_model(bytes: &[u8]) -> Result<Model, Refusal> {
+    let base = Base::from_code(bytes[1]).ok_or(Refusal::HeaderCode)?;
     let stamps = match bytes[2] {
         0 => false,
         1 => true,
         _ => return Err(Refusal::HeaderCode),
     };
     match bytes[5] {
-        0 => Ok(House { model, stamps }),
+        0 => Ok(Model { base, stamps }),
         _ => Err(Refusal::HeaderCode),
     }
 }
@@ -96,8 +96,8 @@ impl Layout {
     fn read(kind: Kind, bytes: &[u8]) -> Layout {
         let [n, rounds, lines] = [
             bytes[3].into(),
-            word(bytes, 6).into(),
-            word(bytes, 8).into(),
+            number_at(bytes, 6).into(),
+            number_at(bytes, 8).into(),
         ];
         Layout::of(kind, n, rounds, lines)
     }
@@ -113,7 +113,7 @@ impl Layout {
     }
 
     fn fits(&self, bytes: &[u8]) -> bool {
-        let named = [10, 12, 14].map(|at| usize::from(word(bytes, at)));
+        let named = [10, 12, 14].map(|at| usize::from(number_at(bytes, at)));
         named == [HEADER, self.sets, self.lines] && bytes.len() == self.end
     }
 }
@@ -132,16 +132,16 @@ fn read_lines(kind: Kind, rounds: usize, bytes: &[u8]) -> Result<Vec<Line>, Refu
 }
 
 fn read_line(kind: Kind, rounds: std::ops::Range<usize>, bytes: &[u8]) -> Result<Line, Refusal> {
-    let round = usize::from(word(bytes, 0));
+    let round = usize::from(number_at(bytes, 0));
     let [sender, receiver, column] = [bytes[2], bytes[3], bytes[4]].map(usize::from);
     let value = &bytes[6..];
     if !rounds.contains(&round) {
-        return Err(Refusal::FaultyLine);
+        return Err(Refusal::FlawedLine);
     }
     let cell = match bytes[5] {
         0 if value.iter().all(|&byte| byte == 0) => None,
         1 => Some(kind.read(value).ok_or(Refusal::LineValue)?),
-        _ => return Err(Refusal::FaultyLine),
+        _ => return Err(Refusal::FlawedLine),
     };
     Ok(Line {
         round,
@@ -154,12 +154,12 @@ fn read_line(kind: Kind, rounds: std::ops::Range<usize>, bytes: &[u8]) -> Result
     })
 }
 
-/// A file before it has become bytes. It may be faulty in any way: its numbers
-/// are as they will stand in the file, and nothing is checked.
+/// A file before it has become bytes. It may have any flaw: its numbers are as
+/// they will stand in the file, and nothing is checked.
 #[derive(Clone, Debug)]
 pub struct Draft {
     pub kind: u8,
-    pub model: u8,
+    pub base: u8,
     pub stamps: u8,
     pub n: u8,
     pub t: u8,
@@ -218,11 +218,11 @@ impl DraftLine {
 
 impl Draft {
     /// A sound file with an initial set, no rounds and no lines.
-    pub fn new(kind: Kind, house: House, t: usize, proposals: &[Value], initial: Set) -> Draft {
+    pub fn new(kind: Kind, model: Model, t: usize, proposals: &[Value], initial: Set) -> Draft {
         Draft {
             kind: kind.code(),
-            model: house.model.code(),
-            stamps: house.stamps.into(),
+            base: model.base.code(),
+            stamps: model.stamps.into(),
             n: proposals.len() as u8,
             t: t as u8,
             spare: 0,
@@ -247,13 +247,13 @@ impl Draft {
     }
 
     /// All controllers of a class, each with the round in which it is so.
-    pub fn senders(&self, house: House, class: Class) -> Vec<(usize, usize)> {
+    pub fn senders(&self, model: Model, class: Class) -> Vec<(usize, usize)> {
         let moves = self
             .sets
             .windows(2)
             .map(|pair| (Set(pair[0]), Set(pair[1])));
-        let all = moves.enumerate().flat_map(|(round, (before, now))| {
-            let of_class = move |&i: &usize| house.class(before, now, i) == class;
+        let all = moves.enumerate().flat_map(|(round, (before, after))| {
+            let of_class = move |&i: &usize| model.class(before, after, i) == class;
             (0..usize::from(self.n))
                 .filter(of_class)
                 .map(move |sender| (round, sender))
@@ -269,20 +269,20 @@ impl Draft {
         let lines_start = sets_start + sets.len();
         let mut bytes = vec![
             self.kind,
-            self.model,
+            self.base,
             self.stamps,
             self.n,
             self.t,
             self.spare,
         ];
-        let words = [
+        let numbers = [
             usize::from(self.rounds),
             self.lines.len(),
             HEADER,
             sets_start,
             lines_start,
         ];
-        for (number, error) in words.into_iter().zip(self.header_errors) {
+        for (number, error) in numbers.into_iter().zip(self.header_errors) {
             bytes.extend((number as u16).wrapping_add(error).to_le_bytes());
         }
         bytes.extend([proposals, sets, lines, self.surplus.clone()].concat());

@@ -3,7 +3,7 @@
 use std::fmt;
 
 use crate::files::RunFile;
-use crate::models::House;
+use crate::models::Model;
 use crate::refusals::Refused;
 use crate::runs::Run;
 use crate::values::{Kind, Value};
@@ -11,7 +11,7 @@ use crate::values::{Kind, Value};
 /// The listing of a file that is not refused.
 pub struct Report {
     pub kind: Kind,
-    pub house: House,
+    pub model: Model,
     pub t: usize,
     pub rounds: usize,
     /// By controller.
@@ -41,7 +41,7 @@ pub fn list(bytes: &[u8]) -> Listing {
         .collect();
     Ok(Report {
         kind: file.kind,
-        house: file.house,
+        model: file.model,
         t: file.t,
         rounds: file.sets.len(),
         held,
@@ -49,7 +49,7 @@ pub fn list(bytes: &[u8]) -> Listing {
 }
 
 fn perform(file: &RunFile) -> Result<Run, Refused> {
-    let mut run = Run::open(file.house, file.kind, file.t, &file.proposals, file.initial)?;
+    let mut run = Run::open(file.model, file.kind, file.t, &file.proposals, file.initial)?;
     let mut lines = file.lines.iter().peekable();
     for (number, &set) in file.sets.iter().enumerate() {
         let mut round = run.seat(set).map_err(|refusal| refusal.in_round(number))?;

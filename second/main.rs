@@ -4,8 +4,8 @@
 mod adversaries;
 mod compare;
 mod examples;
-mod faults;
 mod files;
+mod flaws;
 mod listings;
 mod makers;
 mod models;

@@ -1,9 +1,9 @@
 //! Files made from a seed, to show every difference between two programs.
 
 use crate::adversaries::{self, Forging, Frame, Proposals, Seating, Style};
-use crate::faults::Fault;
 use crate::files::{Draft, LONGEST, line_width};
-use crate::models::{Class, House, Model, Set};
+use crate::flaws::Flaw;
+use crate::models::{Base, Class, Model, Set};
 use crate::rng::Rng;
 use crate::runs::{MOST_CONTROLLERS, MOST_ROUNDS, Place};
 use crate::values::Kind;
@@ -15,8 +15,8 @@ pub enum Recipe {
     Sound,
     Long,
     Full,
-    OneFault(Fault),
-    TwoFaults(Fault, Fault),
+    OneFlaw(Flaw),
+    TwoFlaws(Flaw, Flaw),
     Cut,
     ChangedByte,
     Noise,
@@ -31,37 +31,37 @@ pub struct Made {
 pub fn make(seed: u64, index: u64) -> Made {
     let rng = Rng::new(seed, index);
     let recipe = recipe(index, &rng);
-    let house = house(index);
+    let kind_and_model = kind_and_model(index);
     let bytes = match recipe {
-        Recipe::Sound => sound(house, &rng).bytes(),
-        Recipe::Long => long(house, &rng).bytes(),
-        Recipe::Full => full(house, &rng),
-        Recipe::OneFault(fault) => faulty(house, &[fault], &rng),
-        Recipe::TwoFaults(first, second) => faulty(house, &[first, second], &rng),
-        Recipe::Cut => cut(house, &rng),
-        Recipe::ChangedByte => changed(house, &rng),
-        Recipe::Noise => noise(house, &rng),
+        Recipe::Sound => sound(kind_and_model, &rng).bytes(),
+        Recipe::Long => long(kind_and_model, &rng).bytes(),
+        Recipe::Full => full(kind_and_model, &rng),
+        Recipe::OneFlaw(flaw) => flawed(kind_and_model, &[flaw], &rng),
+        Recipe::TwoFlaws(first, second) => flawed(kind_and_model, &[first, second], &rng),
+        Recipe::Cut => cut(kind_and_model, &rng),
+        Recipe::ChangedByte => changed(kind_and_model, &rng),
+        Recipe::Noise => noise(kind_and_model, &rng),
     };
     Made { recipe, bytes }
 }
 
 /// Goes by the index, not by chance, so that a few hundred files have them all.
 fn recipe(index: u64, rng: &Rng) -> Recipe {
-    let faults = Fault::ALL.len() as u64;
+    let flaws = Flaw::ALL.len() as u64;
     let (hundred, slot) = (index / 100, index % 100);
     match slot {
         0..50 => Recipe::Sound,
         50..52 => Recipe::Long,
         52 => Recipe::Full,
-        53..80 => Recipe::OneFault(Fault::ALL[((hundred * 27 + slot) % faults) as usize]),
+        53..80 => Recipe::OneFlaw(Flaw::ALL[((hundred * 27 + slot) % flaws) as usize]),
         80..92 => {
-            let first = rng.pick(&Fault::ALL);
+            let first = rng.pick(&Flaw::ALL);
             let second = if rng.percent(60) {
                 first.near(rng)
             } else {
-                rng.pick(&Fault::ALL)
+                rng.pick(&Flaw::ALL)
             };
-            Recipe::TwoFaults(first, second)
+            Recipe::TwoFlaws(first, second)
         }
         92..95 => Recipe::Cut,
         95..98 => Recipe::ChangedByte,
@@ -69,36 +69,36 @@ fn recipe(index: u64, rng: &Rng) -> Recipe {
     }
 }
 
-/// The kind, model and stamps also go round by the index.
-fn house(index: u64) -> (Kind, House) {
-    // The hundreds turn it on, so that every recipe meets every house.
+/// The kind, the base and the stamps also go round by the index.
+fn kind_and_model(index: u64) -> (Kind, Model) {
+    // The hundreds turn it on, so that every recipe meets every kind and model.
     let turn = (index + index / 100) as usize;
-    let (models, kinds) = (Model::ALL.len(), Kind::ALL.len());
+    let (bases, kinds) = (Base::ALL.len(), Kind::ALL.len());
     (
-        Kind::ALL[turn / models % kinds],
-        House {
-            model: Model::ALL[turn % models],
-            stamps: turn / (models * kinds) % 2 == 1,
+        Kind::ALL[turn / bases % kinds],
+        Model {
+            base: Base::ALL[turn % bases],
+            stamps: turn / (bases * kinds) % 2 == 1,
         },
     )
 }
 
 /// The fewest controllers that bear `t` upsets.
-fn fewest(house: House, t: usize) -> usize {
-    let counts = house.counts(t);
+fn fewest(model: Model, t: usize) -> usize {
+    let counts = model.counts(t);
     counts.b + counts.e + counts.l + 1
 }
 
 /// Mostly the smallest block for its t: there every count is at its threshold.
-fn frame((kind, house): (Kind, House), rng: &Rng) -> Frame {
+fn frame((kind, model): (Kind, Model), rng: &Rng) -> Frame {
     let most = (0..MOST_CONTROLLERS)
-        .take_while(|&t| fewest(house, t) <= MOST_CONTROLLERS)
+        .take_while(|&t| fewest(model, t) <= MOST_CONTROLLERS)
         .count()
         - 1;
     let t = rng
         .weighted(&[(8, 0), (57, 1), (20, 2), (15, rng.between(1, most))])
         .min(most);
-    let least = fewest(house, t);
+    let least = fewest(model, t);
     let above = rng.between(least, MOST_CONTROLLERS);
     let n = rng
         .weighted(&[
@@ -120,7 +120,7 @@ fn frame((kind, house): (Kind, House), rng: &Rng) -> Frame {
     ]);
     Frame {
         kind,
-        house,
+        model,
         n,
         t,
         rounds,
@@ -129,7 +129,7 @@ fn frame((kind, house): (Kind, House), rng: &Rng) -> Frame {
 
 fn style(frame: Frame, rng: &Rng) -> Style {
     // Without stamps, an upset that moves can split a block.
-    let splits = !frame.house.stamps && frame.house.model != Model::Fixed;
+    let splits = !frame.model.stamps && frame.model.base != Base::Fixed;
     if rng.percent(if splits { 40 } else { 5 }) {
         return splitting_style(rng);
     }
@@ -175,28 +175,28 @@ fn splitting_style(rng: &Rng) -> Style {
     }
 }
 
-fn sound(house: (Kind, House), rng: &Rng) -> Draft {
-    let frame = frame(house, rng);
+fn sound(kind_and_model: (Kind, Model), rng: &Rng) -> Draft {
+    let frame = frame(kind_and_model, rng);
     let style = style(frame, rng);
     adversaries::sound(frame, style, rng)
 }
 
-fn long(house: (Kind, House), rng: &Rng) -> Draft {
+fn long(kind_and_model: (Kind, Model), rng: &Rng) -> Draft {
     let rounds = rng.pick(&[MOST_ROUNDS, MOST_ROUNDS - 1, rng.between(100, MOST_ROUNDS)]);
     let frame = Frame {
         rounds,
-        ..frame(house, rng)
+        ..frame(kind_and_model, rng)
     };
     let style = style(frame, rng);
     adversaries::sound(frame, style, rng)
 }
 
 /// As large a file as can be, or a little larger.
-fn full(house: (Kind, House), rng: &Rng) -> Vec<u8> {
+fn full(kind_and_model: (Kind, Model), rng: &Rng) -> Vec<u8> {
     let frame = Frame {
         rounds: 3 * MOST_CONTROLLERS,
         n: MOST_CONTROLLERS,
-        ..frame(house, rng)
+        ..frame(kind_and_model, rng)
     };
     let mut draft = adversaries::sound(
         frame,
@@ -209,7 +209,7 @@ fn full(house: (Kind, House), rng: &Rng) -> Vec<u8> {
     let length = rng.pick(&[LONGEST, LONGEST, LONGEST + 1]);
     fill(&mut draft, length, rng);
     if rng.percent(50) {
-        // A sound file's length is even, so only a faulty one has 65,535 bytes.
+        // A sound file's length is even, so only a flawed one has 65,535 bytes.
         draft.surplus = vec![0; length.saturating_sub(draft.bytes().len())];
     }
     draft.bytes()
@@ -231,8 +231,8 @@ fn fill(draft: &mut Draft, length: usize, rng: &Rng) {
 }
 
 /// A small sound file, in which things can go wrong.
-fn modest(house: (Kind, House), rng: &Rng) -> Draft {
-    let frame = frame(house, rng);
+fn modest(kind_and_model: (Kind, Model), rng: &Rng) -> Draft {
+    let frame = frame(kind_and_model, rng);
     let frame = Frame {
         rounds: frame.rounds.min(3 * frame.n + 3),
         ..frame
@@ -250,21 +250,21 @@ fn modest(house: (Kind, House), rng: &Rng) -> Draft {
     )
 }
 
-fn faulty((kind, house): (Kind, House), faults: &[Fault], rng: &Rng) -> Vec<u8> {
-    let model = faults
+fn flawed((kind, model): (Kind, Model), flaws: &[Flaw], rng: &Rng) -> Vec<u8> {
+    let base = flaws
         .iter()
-        .find_map(|fault| fault.model())
-        .unwrap_or(house.model);
-    let mut draft = modest((kind, House { model, ..house }), rng);
-    for fault in faults {
-        fault.lay_into(&mut draft, rng);
+        .find_map(|flaw| flaw.base())
+        .unwrap_or(model.base);
+    let mut draft = modest((kind, Model { base, ..model }), rng);
+    for flaw in flaws {
+        flaw.lay_into(&mut draft, rng);
     }
     draft.bytes()
 }
 
 /// Any beginning of a sound file, mostly near one of its borders.
-fn cut(house: (Kind, House), rng: &Rng) -> Vec<u8> {
-    let draft = modest(house, rng);
+fn cut(kind_and_model: (Kind, Model), rng: &Rng) -> Vec<u8> {
+    let draft = modest(kind_and_model, rng);
     let mut bytes = draft.bytes();
     let sets = 16 + draft.proposals.concat().len();
     let lines = sets + 2 * draft.sets.len();
@@ -278,8 +278,8 @@ fn cut(house: (Kind, House), rng: &Rng) -> Vec<u8> {
     bytes
 }
 
-fn changed(house: (Kind, House), rng: &Rng) -> Vec<u8> {
-    let mut bytes = modest(house, rng).bytes();
+fn changed(kind_and_model: (Kind, Model), rng: &Rng) -> Vec<u8> {
+    let mut bytes = modest(kind_and_model, rng).bytes();
     let at = if rng.percent(30) {
         rng.below(16)
     } else {
@@ -294,13 +294,13 @@ fn changed(house: (Kind, House), rng: &Rng) -> Vec<u8> {
     bytes
 }
 
-/// Noise, or noise behind the header of a sound file of that length.
-fn noise(house: (Kind, House), rng: &Rng) -> Vec<u8> {
+/// Noise, or noise after the header of a sound file of that length.
+fn noise(kind_and_model: (Kind, Model), rng: &Rng) -> Vec<u8> {
     if rng.percent(40) {
         let length = rng.pick(&[0, 15, 16, 17, rng.below(200)]);
         return rng.bytes(length);
     }
-    let mut bytes = modest(house, rng).bytes();
+    let mut bytes = modest(kind_and_model, rng).bytes();
     let length = bytes.len();
     let sound = rng.pick(&[10, 16, 16 + rng.below(length - 15)]);
     bytes.truncate(sound);
@@ -313,13 +313,13 @@ fn noise(house: (Kind, House), rng: &Rng) -> Vec<u8> {
 /// rounds, sets that move, and as many lines as fit, spread over the rounds.
 pub fn heaviest(kind: Kind) -> Vec<u8> {
     let rng = Rng::new(1, 1);
-    let house = House {
-        model: Model::Carried,
+    let model = Model {
+        base: Base::Carried,
         stamps: false,
     };
     let frame = Frame {
         kind,
-        house,
+        model,
         n: MOST_CONTROLLERS,
         t: 5,
         rounds: MOST_ROUNDS,
@@ -332,7 +332,7 @@ pub fn heaviest(kind: Kind) -> Vec<u8> {
         from: 0,
     };
     let mut draft = adversaries::sound(frame, style, &rng);
-    let senders = draft.senders(house, Class::Free);
+    let senders = draft.senders(model, Class::Free);
     let count = (LONGEST - draft.bytes().len()) / line_width(kind);
     for i in 0..count {
         let (round, sender) = senders[i * senders.len() / count];

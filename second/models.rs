@@ -1,5 +1,5 @@
-//! Models of faults: who may be seated after whom, and how each controller
-//! then sends.
+//! Models of upsets: which set may be seated after which, and how each
+//! controller then sends.
 
 use std::fmt;
 
@@ -42,8 +42,11 @@ pub enum Class {
     Free,
 }
 
-/// At most `b` controllers are not honest, at most `e` are free, and at most
-/// `l` are free or uniform.
+/// How many controllers of a class one round has at most: `b` bounds all that
+/// are not honest, `l` the free and uniform ones together, `e` the free ones.
+///
+/// Under buffered with t = 1 an upset that moves makes two controllers free, the
+/// one that it leaves and the one that it comes to, so all three bounds are 2.
 #[derive(Clone, Copy, PartialEq, Eq, Debug)]
 pub struct Counts {
     pub b: usize,
@@ -51,8 +54,9 @@ pub struct Counts {
     pub l: usize,
 }
 
+/// One of the five models without the stamp layer.
 #[derive(Clone, Copy, PartialEq, Eq, PartialOrd, Ord, Debug)]
-pub enum Model {
+pub enum Base {
     Aware,
     Unaware,
     Buffered,
@@ -60,50 +64,50 @@ pub enum Model {
     Fixed,
 }
 
-impl Model {
-    pub const ALL: [Model; 5] = [
-        Model::Aware,
-        Model::Unaware,
-        Model::Buffered,
-        Model::Carried,
-        Model::Fixed,
+impl Base {
+    pub const ALL: [Base; 5] = [
+        Base::Aware,
+        Base::Unaware,
+        Base::Buffered,
+        Base::Carried,
+        Base::Fixed,
     ];
 
-    pub fn from_code(code: u8) -> Option<Model> {
-        Model::ALL.into_iter().find(|model| model.code() == code)
+    pub fn from_code(code: u8) -> Option<Base> {
+        Base::ALL.into_iter().find(|base| base.code() == code)
     }
 
     pub fn code(self) -> u8 {
         match self {
-            Model::Aware => 0,
-            Model::Unaware => 1,
-            Model::Buffered => 2,
-            Model::Carried => 3,
-            Model::Fixed => 4,
+            Base::Aware => 0,
+            Base::Unaware => 1,
+            Base::Buffered => 2,
+            Base::Carried => 3,
+            Base::Fixed => 4,
         }
     }
 
-    /// The class of a controller that was in the set before, is in the set
-    /// now, or both.
-    fn class(self, before: bool, now: bool) -> Class {
-        match (self, before, now) {
+    /// The class of a controller, by whether it is in the set before the move
+    /// and in the set after it.
+    fn class(self, before: bool, after: bool) -> Class {
+        match (self, before, after) {
             (_, false, false) => Class::Honest,
             (_, true, true) => Class::Free,
             // The upset arrives after its new host has sent.
-            (Model::Carried, false, true) => Class::Honest,
+            (Base::Carried, false, true) => Class::Honest,
             (_, false, true) => Class::Free,
-            (Model::Aware, true, false) => Class::Silent,
-            (Model::Unaware, true, false) => Class::Uniform,
+            (Base::Aware, true, false) => Class::Silent,
+            (Base::Unaware, true, false) => Class::Uniform,
             (_, true, false) => Class::Free,
         }
     }
 
     fn counts(self, t: usize) -> Counts {
         let (b, e, l) = match self {
-            Model::Aware => (2, 1, 1),
-            Model::Unaware => (2, 1, 2),
-            Model::Buffered => (2, 2, 2),
-            Model::Carried | Model::Fixed => (1, 1, 1),
+            Base::Aware => (2, 1, 1),
+            Base::Unaware => (2, 1, 2),
+            Base::Buffered => (2, 2, 2),
+            Base::Carried | Base::Fixed => (1, 1, 1),
         };
         Counts {
             b: b * t,
@@ -113,22 +117,23 @@ impl Model {
     }
 }
 
-/// A model, and whether the stamp layer stands over it.
+/// A model as a run file's header names it: the base, and whether the stamp
+/// layer stands over it.
 #[derive(Clone, Copy, PartialEq, Eq, PartialOrd, Ord, Debug)]
-pub struct House {
-    pub model: Model,
+pub struct Model {
+    pub base: Base,
     pub stamps: bool,
 }
 
-impl House {
-    pub fn allows(self, before: Set, now: Set) -> bool {
-        self.model != Model::Fixed || before == now
+impl Model {
+    pub fn allows(self, before: Set, after: Set) -> bool {
+        self.base != Base::Fixed || before == after
     }
 
-    pub fn class(self, before: Set, now: Set, controller: usize) -> Class {
+    pub fn class(self, before: Set, after: Set, controller: usize) -> Class {
         match self
-            .model
-            .class(before.has(controller), now.has(controller))
+            .base
+            .class(before.has(controller), after.has(controller))
         {
             // A stamped message reaches all alike.
             Class::Free if self.stamps => Class::Uniform,
@@ -138,7 +143,7 @@ impl House {
 
     /// The counts for at most `t` seated controllers; a `t` above 15 is read as 15.
     pub fn counts(self, t: usize) -> Counts {
-        let counts = self.model.counts(t.min(15));
+        let counts = self.base.counts(t.min(15));
         Counts {
             e: if self.stamps { 0 } else { counts.e },
             ..counts
@@ -146,17 +151,17 @@ impl House {
     }
 }
 
-impl fmt::Display for House {
+impl fmt::Display for Model {
     fn fmt(&self, f: &mut fmt::Formatter) -> fmt::Result {
-        let model = match self.model {
-            Model::Aware => "aware",
-            Model::Unaware => "unaware",
-            Model::Buffered => "buffered",
-            Model::Carried => "carried",
-            Model::Fixed => "fixed",
+        let base = match self.base {
+            Base::Aware => "aware",
+            Base::Unaware => "unaware",
+            Base::Buffered => "buffered",
+            Base::Carried => "carried",
+            Base::Fixed => "fixed",
         };
         f.pad(&format!(
-            "{model}{}",
+            "{base}{}",
             if self.stamps { ", stamped" } else { "" }
         ))
     }

@@ -19,7 +19,7 @@ pub enum Refusal {
     Layout,
     ProposalValue,
     LineValue,
-    FaultyLine,
+    FlawedLine,
 }
 
 impl Refusal {
@@ -37,7 +37,7 @@ impl Refusal {
             Refusal::HeaderCode => 22,
             Refusal::Layout => 23,
             Refusal::ProposalValue | Refusal::LineValue => 24,
-            Refusal::FaultyLine => 25,
+            Refusal::FlawedLine => 25,
         }
     }
 

@@ -5,7 +5,7 @@
 
 use std::collections::HashMap;
 
-use crate::models::{Class, House, Set};
+use crate::models::{Class, Model, Set};
 use crate::refusals::Refusal;
 use crate::values::{Cell, Kind, Value};
 use crate::votes::{Process, Quorums, Stage};
@@ -15,24 +15,25 @@ pub const MOST_ROUNDS: usize = 1000;
 
 /// A run between two rounds.
 pub struct Run {
-    pub house: House,
+    pub model: Model,
     pub quorums: Quorums,
     t: usize,
     round: usize,
+    /// Who was seated in the last closed round; at first the initial set.
     before: Set,
     processes: Vec<Process>,
 }
 
 impl Run {
     pub fn open(
-        house: House,
+        model: Model,
         kind: Kind,
         t: usize,
         proposals: &[Value],
         initial: Set,
     ) -> Result<Run, Refusal> {
         let n = proposals.len();
-        let counts = house.counts(t);
+        let counts = model.counts(t);
         if n == 0 || n > MOST_CONTROLLERS {
             return Err(Refusal::BlockSize);
         }
@@ -54,7 +55,7 @@ impl Run {
             fallback: kind.fallback(),
         };
         Ok(Run {
-            house,
+            model,
             quorums,
             t,
             round: 0,
@@ -63,23 +64,23 @@ impl Run {
         })
     }
 
-    pub fn seat(&mut self, now: Set) -> Result<Round<'_>, Refusal> {
+    pub fn seat(&mut self, after: Set) -> Result<Round<'_>, Refusal> {
         let n = self.quorums.n;
         if self.round >= MOST_ROUNDS {
             return Err(Refusal::RoundLimit);
         }
-        check_members(now, n, self.t)?;
-        if !self.house.allows(self.before, now) {
+        check_members(after, n, self.t)?;
+        if !self.model.allows(self.before, after) {
             return Err(Refusal::ForbiddenMove);
         }
         let stage = Stage::of(self.round, n);
         let classes = (0..n)
-            .map(|i| self.house.class(self.before, now, i))
+            .map(|i| self.model.class(self.before, after, i))
             .collect();
         Ok(Round {
             number: self.round,
             run: self,
-            now,
+            after,
             stage,
             classes,
             forged: HashMap::new(),
@@ -118,7 +119,8 @@ pub struct Place {
 pub struct Round<'run> {
     run: &'run mut Run,
     pub number: usize,
-    pub now: Set,
+    /// Who is seated in this round: the set after its move.
+    pub after: Set,
     pub stage: Stage,
     pub classes: Vec<Class>,
     forged: HashMap<Place, Cell>,
@@ -180,13 +182,13 @@ impl Round<'_> {
         // Every message is from before the round, so all are taken down first.
         let heard: Vec<_> = (0..n).map(|receiver| self.all_heard(receiver)).collect();
         for (i, process) in self.run.processes.iter_mut().enumerate() {
-            if self.now.has(i) {
+            if self.after.has(i) {
                 *process = Process::new(n, None);
             } else {
                 process.receive(self.stage, &self.run.quorums, &heard[i]);
             }
         }
-        self.run.before = self.now;
+        self.run.before = self.after;
         self.run.round += 1;
     }
 }

@@ -5,26 +5,26 @@ use crate::examples;
 use crate::files::RunFile;
 use crate::listings::{list, text};
 use crate::makers;
-use crate::models::{Counts, House, Model, Set};
+use crate::models::{Base, Counts, Model, Set};
 use crate::refusals::Refusal;
 use crate::runs::{Place, Run};
 use crate::values::{Cell, Kind, Value};
 use crate::votes::Quorums;
 
-const AWARE: House = House {
-    model: Model::Aware,
+const AWARE: Model = Model {
+    base: Base::Aware,
     stamps: false,
 };
-const UNAWARE: House = House {
-    model: Model::Unaware,
+const UNAWARE: Model = Model {
+    base: Base::Unaware,
     stamps: false,
 };
-const CARRIED: House = House {
-    model: Model::Carried,
+const CARRIED: Model = Model {
+    base: Base::Carried,
     stamps: false,
 };
-const FIXED: House = House {
-    model: Model::Fixed,
+const FIXED: Model = Model {
+    base: Base::Fixed,
     stamps: false,
 };
 
@@ -40,10 +40,10 @@ fn some(tenths: u16) -> Cell {
     Value::setpoint(tenths)
 }
 
-fn quorums(n: usize, house: House) -> Quorums {
+fn quorums(n: usize, model: Model) -> Quorums {
     Quorums {
         n,
-        counts: house.counts(1),
+        counts: model.counts(1),
         fallback: Kind::Setpoint.fallback(),
     }
 }
@@ -52,9 +52,9 @@ fn set(controllers: &[usize]) -> Set {
     controllers.iter().copied().collect()
 }
 
-fn open(house: House, t: usize, tenths: &[u16], initial: &[usize]) -> Result<Run, Refusal> {
+fn open(model: Model, t: usize, tenths: &[u16], initial: &[usize]) -> Result<Run, Refusal> {
     let proposals: Vec<Value> = cells(tenths).into_iter().flatten().collect();
-    Run::open(house, Kind::Setpoint, t, &proposals, set(initial))
+    Run::open(model, Kind::Setpoint, t, &proposals, set(initial))
 }
 
 /// Seats, forges sender, receiver, column and figure, and closes.
@@ -77,22 +77,19 @@ fn round(run: &mut Run, seated: &[usize], forged: &[(usize, usize, usize, u16)])
 
 #[test]
 fn smallest_blocks() {
-    let stamped = |model| House {
-        model,
-        stamps: true,
-    };
-    for (house, n) in [
+    let stamped = |base| Model { base, stamps: true };
+    for (model, n) in [
         (UNAWARE, 5),
-        (stamped(Model::Aware), 3),
-        (stamped(Model::Carried), 2),
+        (stamped(Base::Aware), 3),
+        (stamped(Base::Carried), 2),
     ] {
         assert_eq!(
-            open(house, 1, &vec![500; n], &[]).err(),
+            open(model, 1, &vec![500; n], &[]).err(),
             Some(Refusal::Resilience)
         );
-        assert!(open(house, 1, &vec![500; n + 1], &[]).is_ok());
+        assert!(open(model, 1, &vec![500; n + 1], &[]).is_ok());
     }
-    assert_eq!(stamped(Model::Aware).counts(1), Counts { b: 2, e: 0, l: 1 });
+    assert_eq!(stamped(Base::Aware).counts(1), Counts { b: 2, e: 0, l: 1 });
 }
 
 #[test]
@@ -152,10 +149,10 @@ fn maintaining() {
 
 #[test]
 fn a_block_of_one() {
-    for model in Model::ALL {
+    for base in Base::ALL {
         let mut run = open(
-            House {
-                model,
+            Model {
+                base,
                 stamps: false,
             },
             0,
@@ -232,7 +229,7 @@ fn a_phase_round_by_round() {
 fn a_free_coordinator_and_a_stamped_one() {
     let mut free = open(CARRIED, 1, &[500, 610, 500, 610], &[]).unwrap();
     let mut stamped = open(
-        House {
+        Model {
             stamps: true,
             ..CARRIED
         },

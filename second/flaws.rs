@@ -1,20 +1,20 @@
-//! What can be wrong with a run file. Each fault is laid into a sound draft,
-//! as near to being allowed as it can be.
+//! What can be wrong with a run file. Each flaw is laid into a sound draft, as
+//! near to being allowed as it can be.
 
 use crate::adversaries::any_value;
 use crate::files::{Draft, DraftLine, HEADER, LONGEST, Line};
-use crate::models::{Class, House, Model, Set};
+use crate::models::{Base, Class, Model, Set};
 use crate::rng::Rng;
 use crate::runs::Place;
 use crate::values::{Kind, Value};
 
 /// They stand about in the order in which they are checked.
 #[derive(Clone, Copy, PartialEq, Eq, Debug)]
-pub enum Fault {
+pub enum Flaw {
     TooShort,
     TooLong,
     KindCode,
-    ModelCode,
+    BaseCode,
     StampsCode,
     SpareByte,
     WrongOffset,
@@ -31,10 +31,10 @@ pub enum Fault {
     TooManyControllers,
     AllSeated,
     NotResilient,
-    InitialStranger,
+    InitialBeyondBlock,
     InitialCrowd,
     TooManyRounds,
-    RoundStranger,
+    RoundBeyondBlock,
     RoundCrowd,
     ForbiddenMove,
     NoSuchSender,
@@ -45,65 +45,65 @@ pub enum Fault {
     UniformReceiver,
 }
 
-impl Fault {
-    pub const ALL: [Fault; 32] = [
-        Fault::TooShort,
-        Fault::TooLong,
-        Fault::KindCode,
-        Fault::ModelCode,
-        Fault::StampsCode,
-        Fault::SpareByte,
-        Fault::WrongOffset,
-        Fault::WrongLength,
-        Fault::WrongCount,
-        Fault::WrappedCount,
-        Fault::UnlawfulProposal,
-        Fault::UnlawfulLine,
-        Fault::LateLine,
-        Fault::EarlyLine,
-        Fault::UnknownTag,
-        Fault::FilledEmpty,
-        Fault::NoControllers,
-        Fault::TooManyControllers,
-        Fault::AllSeated,
-        Fault::NotResilient,
-        Fault::InitialStranger,
-        Fault::InitialCrowd,
-        Fault::TooManyRounds,
-        Fault::RoundStranger,
-        Fault::RoundCrowd,
-        Fault::ForbiddenMove,
-        Fault::NoSuchSender,
-        Fault::NoSuchReceiver,
-        Fault::NoSuchColumn,
-        Fault::HonestSender,
-        Fault::SilentSender,
-        Fault::UniformReceiver,
+impl Flaw {
+    pub const ALL: [Flaw; 32] = [
+        Flaw::TooShort,
+        Flaw::TooLong,
+        Flaw::KindCode,
+        Flaw::BaseCode,
+        Flaw::StampsCode,
+        Flaw::SpareByte,
+        Flaw::WrongOffset,
+        Flaw::WrongLength,
+        Flaw::WrongCount,
+        Flaw::WrappedCount,
+        Flaw::UnlawfulProposal,
+        Flaw::UnlawfulLine,
+        Flaw::LateLine,
+        Flaw::EarlyLine,
+        Flaw::UnknownTag,
+        Flaw::FilledEmpty,
+        Flaw::NoControllers,
+        Flaw::TooManyControllers,
+        Flaw::AllSeated,
+        Flaw::NotResilient,
+        Flaw::InitialBeyondBlock,
+        Flaw::InitialCrowd,
+        Flaw::TooManyRounds,
+        Flaw::RoundBeyondBlock,
+        Flaw::RoundCrowd,
+        Flaw::ForbiddenMove,
+        Flaw::NoSuchSender,
+        Flaw::NoSuchReceiver,
+        Flaw::NoSuchColumn,
+        Flaw::HonestSender,
+        Flaw::SilentSender,
+        Flaw::UniformReceiver,
     ];
 
-    /// Another fault that is checked at about the same time.
-    pub fn near(self, rng: &Rng) -> Fault {
+    /// Another flaw that is checked at about the same time.
+    pub fn near(self, rng: &Rng) -> Flaw {
         let at = self as usize;
-        Fault::ALL[rng.between(at.saturating_sub(6), (at + 6).min(Fault::ALL.len() - 1))]
+        Flaw::ALL[rng.between(at.saturating_sub(6), (at + 6).min(Flaw::ALL.len() - 1))]
     }
 
-    /// The model under which the fault can come about, where not every one will do.
-    pub fn model(self) -> Option<Model> {
+    /// The base under which the flaw can come about, where not every one will do.
+    pub fn base(self) -> Option<Base> {
         match self {
-            Fault::ForbiddenMove => Some(Model::Fixed),
-            Fault::SilentSender => Some(Model::Aware),
-            Fault::UniformReceiver => Some(Model::Unaware),
+            Flaw::ForbiddenMove => Some(Base::Fixed),
+            Flaw::SilentSender => Some(Base::Aware),
+            Flaw::UniformReceiver => Some(Base::Unaware),
             _ => None,
         }
     }
 
     pub fn lay_into(self, draft: &mut Draft, rng: &Rng) {
-        use Fault::*;
+        use Flaw::*;
         match self {
             NoControllers | TooManyControllers | AllSeated | NotResilient => {
                 self.spoil_block(draft, rng)
             }
-            InitialStranger | InitialCrowd | RoundStranger | RoundCrowd | ForbiddenMove => {
+            InitialBeyondBlock | InitialCrowd | RoundBeyondBlock | RoundCrowd | ForbiddenMove => {
                 self.spoil_set(draft, rng)
             }
             NoSuchSender | NoSuchReceiver | NoSuchColumn => self.misplace(draft, rng),
@@ -114,7 +114,7 @@ impl Fault {
                 draft.surplus =
                     vec![0; LONGEST + rng.pick(&[1, 1, 2, 5000]) - draft.bytes().len().min(LONGEST)]
             }
-            KindCode | ModelCode | StampsCode | SpareByte => self.spoil_codes(draft, rng),
+            KindCode | BaseCode | StampsCode | SpareByte => self.spoil_codes(draft, rng),
             WrongOffset | WrongLength | WrongCount | WrappedCount => self.spoil_layout(draft, rng),
             UnlawfulProposal if draft.proposals.is_empty() => {}
             UnlawfulProposal => {
@@ -129,13 +129,13 @@ impl Fault {
 
     fn spoil_block(self, draft: &mut Draft, rng: &Rng) {
         match self {
-            Fault::NoControllers => resize(draft, 0, rng),
-            Fault::TooManyControllers => resize(draft, rng.pick(&[17, 17, 17, 18, 32, 255]), rng),
-            Fault::AllSeated => draft.t = rng.pick(&[draft.n, draft.n, draft.n.max(16), 255]),
+            Flaw::NoControllers => resize(draft, 0, rng),
+            Flaw::TooManyControllers => resize(draft, rng.pick(&[17, 17, 17, 18, 32, 255]), rng),
+            Flaw::AllSeated => draft.t = rng.pick(&[draft.n, draft.n, draft.n.max(16), 255]),
             _ => {
                 // Exactly b + e + l controllers.
                 let t = usize::from(draft.t).max(1);
-                let counts = house_of(draft).counts(t);
+                let counts = model_of(draft).counts(t);
                 draft.t = t as u8;
                 resize(draft, counts.b + counts.e + counts.l, rng);
             }
@@ -149,14 +149,16 @@ impl Fault {
         let n = usize::from(draft.n);
         let t = usize::from(draft.t);
         let at = match self {
-            Fault::InitialStranger | Fault::InitialCrowd => 0,
+            Flaw::InitialBeyondBlock | Flaw::InitialCrowd => 0,
             _ => rng.between(1, draft.sets.len() - 1),
         };
         let crowd: Set = rng.some_below(n.min(16), t + 1).into_iter().collect();
         draft.sets[at] = match self {
-            Fault::ForbiddenMove => another_set(draft, at, rng).0,
+            Flaw::ForbiddenMove => another_set(draft, at, rng).0,
             // Sixteen controllers fill the set, so there it takes a crowd.
-            Fault::InitialStranger | Fault::RoundStranger if n < 16 => 1 << rng.pick(&[n, n, 15]),
+            Flaw::InitialBeyondBlock | Flaw::RoundBeyondBlock if n < 16 => {
+                1 << rng.pick(&[n, n, 15])
+            }
             _ => crowd.0,
         };
     }
@@ -168,8 +170,8 @@ impl Fault {
         let mut place = some_place(draft, round, rng);
         let number = rng.pick(&[n, n, 255]);
         match self {
-            Fault::NoSuchSender => place.sender = number,
-            Fault::NoSuchReceiver => place.receiver = number,
+            Flaw::NoSuchSender => place.sender = number,
+            Flaw::NoSuchReceiver => place.receiver = number,
             _ => place.column = rng.pick(&[columns(draft, round), columns(draft, round), 255]),
         }
         insert(draft, round, place, rng);
@@ -178,13 +180,13 @@ impl Fault {
     /// A line for a sender for whom nothing can be forged, or not there.
     fn forge_unforgeable(self, draft: &mut Draft, rng: &Rng) {
         let class = match self {
-            Fault::HonestSender => Class::Honest,
-            Fault::SilentSender => Class::Silent,
+            Flaw::HonestSender => Class::Honest,
+            Flaw::SilentSender => Class::Silent,
             _ => Class::Uniform,
         };
         let n = usize::from(draft.n);
         some_round(draft, rng);
-        let senders = draft.senders(house_of(draft), class);
+        let senders = draft.senders(model_of(draft), class);
         if senders.is_empty() {
             return;
         }
@@ -201,9 +203,9 @@ impl Fault {
 
     fn spoil_codes(self, draft: &mut Draft, rng: &Rng) {
         match self {
-            Fault::KindCode => draft.kind = rng.pick(&[2, 2, 255]),
-            Fault::ModelCode => draft.model = rng.pick(&[Model::ALL.len() as u8, 255]),
-            Fault::StampsCode => draft.stamps = rng.pick(&[2, 2, 255]),
+            Flaw::KindCode => draft.kind = rng.pick(&[2, 2, 255]),
+            Flaw::BaseCode => draft.base = rng.pick(&[Base::ALL.len() as u8, 255]),
+            Flaw::StampsCode => draft.stamps = rng.pick(&[2, 2, 255]),
             _ => draft.spare = rng.pick(&[1, 1, 255]),
         }
     }
@@ -211,12 +213,12 @@ impl Fault {
     fn spoil_layout(self, draft: &mut Draft, rng: &Rng) {
         let one_off = rng.pick(&[1, u16::MAX, 256]);
         match self {
-            Fault::WrongOffset => draft.header_errors[rng.between(2, 4)] = one_off,
-            Fault::WrongCount => draft.header_errors[rng.below(2)] = one_off,
-            Fault::WrongLength if rng.percent(50) => {
+            Flaw::WrongOffset => draft.header_errors[rng.between(2, 4)] = one_off,
+            Flaw::WrongCount => draft.header_errors[rng.below(2)] = one_off,
+            Flaw::WrongLength if rng.percent(50) => {
                 draft.surplus = vec![0; rng.pick(&[1, 1, 2, 8])]
             }
-            Fault::WrongLength => draft.missing = rng.pick(&[1, 1, 2, 8]),
+            Flaw::WrongLength => draft.missing = rng.pick(&[1, 1, 2, 8]),
             // These would be right if a length were taken as a 16-bit number.
             _ => draft.header_errors[rng.below(2)] = 1 << rng.pick(&[13, 15]),
         }
@@ -231,15 +233,15 @@ impl Fault {
         let rounds = draft.rounds;
         let line = &mut draft.lines[at];
         if rng.percent(30) {
-            // Then a line that is faulty otherwise has an unlawful value too.
+            // Then a line that is flawed otherwise has an unlawful value too.
             line.value = unlawful(kind, rng);
         }
         match self {
-            Fault::UnlawfulLine => line.value = unlawful(kind, rng),
-            Fault::LateLine => line.round = rng.pick(&[rounds, rounds, u16::MAX]),
-            Fault::EarlyLine if before > 0 => line.round = rng.pick(&[before - 1, before - 1, 0]),
-            Fault::EarlyLine => line.round = rounds,
-            Fault::UnknownTag => line.tag = rng.pick(&[2, 2, 255]),
+            Flaw::UnlawfulLine => line.value = unlawful(kind, rng),
+            Flaw::LateLine => line.round = rng.pick(&[rounds, rounds, u16::MAX]),
+            Flaw::EarlyLine if before > 0 => line.round = rng.pick(&[before - 1, before - 1, 0]),
+            Flaw::EarlyLine => line.round = rounds,
+            Flaw::UnknownTag => line.tag = rng.pick(&[2, 2, 255]),
             _ => {
                 line.tag = 0;
                 line.value = vec![0; kind.width()];
@@ -254,9 +256,9 @@ fn kind_of(draft: &Draft) -> Kind {
     Kind::from_code(draft.kind).unwrap_or(Kind::Setpoint)
 }
 
-fn house_of(draft: &Draft) -> House {
-    House {
-        model: Model::from_code(draft.model).unwrap_or(Model::Aware),
+fn model_of(draft: &Draft) -> Model {
+    Model {
+        base: Base::from_code(draft.base).unwrap_or(Base::Aware),
         stamps: draft.stamps == 1,
     }
 }
