@@ -32,7 +32,7 @@ const USAGE: &str =
 second compare PROGRAM SEED COUNT [FILE..]    sets PROGRAM beside this one
 second make SEED INDEX                        writes a made file
 second examples DIR                           writes the examples
-second heaviest [setpoints|sheets]            writes the heaviest sound file";
+second heaviest [setpoints|sheets]            writes a sound file that takes much work";
 
 fn main() -> ExitCode {
     let arguments: Vec<String> = std::env::args().skip(1).collect();

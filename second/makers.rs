@@ -309,8 +309,8 @@ fn noise(kind_and_model: (Kind, Model), rng: &Rng) -> Vec<u8> {
     bytes
 }
 
-/// A sound file that takes as much work as one can: the largest block, all
-/// rounds, sets that move, and as many lines as fit, spread over the rounds.
+/// A sound file that takes much work: the largest block, the most rounds, sets
+/// that move, and as many lines as fit, spread over the rounds.
 pub fn heaviest(kind: Kind) -> Vec<u8> {
     let rng = Rng::new(1, 1);
     let model = Model {
