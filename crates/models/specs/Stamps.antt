@@ -14,6 +14,6 @@ stamp Free = Uniform
 abbrev pub stamped : Meaning → Meaning
 stamped m = record {
   allowed = m.allowed;
-  class = λ before now t i. stamp (m.class before now t i);
+  class = λ before after t i. stamp (m.class before after t i);
   counts = λ t. record { b = (m.counts t).b; e = 0; l = (m.counts t).l };
 }

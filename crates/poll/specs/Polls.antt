@@ -9,8 +9,8 @@ use Rattle.values.specs.Setpoints.{setpoint_rules, tenths_of}
 use Rattle.values.specs.Cells.{Held, alike, shows, holders_in, others_in}
 use Rattle.poll.specs.declared.polls.Standing.{Standing}
 use Rattle.poll.specs.declared.polls.Poll.{Poll}
-use Rattle.poll.specs.declared.polls.Fault.{Fault}
-use Rattle.poll.specs.declared.polls.Fault.TheVariants.{Refused, NoMemory}
+use Rattle.poll.specs.declared.polls.PollError.{PollError}
+use Rattle.poll.specs.declared.polls.PollError.TheVariants.{Refused, NoMemory}
 
 -- the input in pieces of two bytes, one for each controller; an odd byte at the end is a piece of its own
 abbrev pub pieces : List ℕ → List (List ℕ)
@@ -74,7 +74,7 @@ pub record PollOf (input : List ℕ) (p : Poll) : Type 0 where
   pub once : Once (cells_of (proposed input)) (map told p.standings.items)
 
 -- A poll; or the refusal of a block with no controller or more than 16, which comes before any want of memory.
-abbrev pub Polled : List ℕ → Result Poll Fault → Type 0
+abbrev pub Polled : List ℕ → Result Poll PollError → Type 0
 Polled input (Ok p) = PollOf input p
 Polled input (Err (Refused e)) = sized (length (pieces input)) ≡ Err e
 Polled input (Err NoMemory) = sized (length (pieces input)) ≡ Ok tt

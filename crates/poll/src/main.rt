@@ -3,7 +3,7 @@
 mod polls;
 
 use models::MOST_CONTROLLERS;
-use polls::{Fault, hold};
+use polls::{PollError, hold};
 use std::io::Read;
 use std::process::ExitCode;
 use std::{fmt, io};
@@ -19,7 +19,7 @@ enum Failure {
     // The text cannot be written.
     Write(io::Error),
     // No poll is held.
-    Held(Fault),
+    Held(PollError),
 }
 
 impl fmt::Display for Failure {
@@ -27,7 +27,7 @@ impl fmt::Display for Failure {
         match self {
             Failure::Read(error) => write!(f, "the proposals cannot be read: {error}"),
             Failure::Write(error) => write!(f, "the poll cannot be written: {error}"),
-            Failure::Held(fault) => write!(f, "{fault}"),
+            Failure::Held(error) => write!(f, "{error}"),
         }
     }
 }
@@ -41,11 +41,11 @@ fn poll_input(rt: &HostRuntime) -> Result<(), Failure> {
         .map_err(Failure::Read)?;
     match hold(rt.alloc(), &input) {
         Ok(poll) => print!(rt; "{poll}").map_err(Failure::Write),
-        Err(fault) => {
-            if let Fault::Refused(refusal) = &fault {
+        Err(error) => {
+            if let PollError::Refused(refusal) = &error {
                 println!(rt; "refused {refusal}").map_err(Failure::Write)?;
             }
-            Err(Failure::Held(fault))
+            Err(Failure::Held(error))
         }
     }
 }

@@ -5,7 +5,7 @@ use Rattle.std.specs.Option.{unwrap_or}
 use Rattle.models.specs.declared.classes.Class.{Class}
 use Rattle.models.specs.declared.classes.Class.TheVariants.{Honest}
 use Rattle.models.specs.declared.classes.Counts.{Counts}
-use Rattle.models.specs.Laws.{faulty, free, forging}
+use Rattle.models.specs.Laws.{not_honest, free, forger}
 use Rattle.values.specs.Cells.{Held, holds, holders}
 use Rattle.values.proofs.Alike.{alike_tells}
 use Rattle.protocol.specs.Rounds.{told, held_by, candidate, settled}
@@ -34,7 +34,7 @@ module _ (n : ℕ) (most : Counts) (big : most.b + most.e + most.l < n) (class1 
       → most.l < holders cells n x → (k : ℕ) × (k < n) × (class1 k ≡ Honest) × (v k ≡ Some x)
   unfolding told
   held_before cells x each many =
-      let w = count_witness (λ k. holds x (cells k)) (λ k. forging (class1 k)) n (omega (arith, k1.forgers)) in
+      let w = count_witness (λ k. holds x (cells k)) (λ k. forger (class1 k)) n (omega (arith, k1.forgers)) in
       let s = each w.0 (holds_is x (cells w.0) w.2) in
       let r = noted s.0 s.1 s.2 w.0 in
       let f : (class1 w.0 ≡ Honest) × (v w.0 ≡ Some x) = grind arith in
@@ -95,7 +95,7 @@ module _ (n : ℕ) (most : Counts) (big : most.b + most.e + most.l < n) (class1 
         (omega (
           arith,
           k1.faults,
-          count_all (λ k. faulty (class1 k)) (λ k. holds w (candidates apart k)) n (λ k lt. let f = candidate_kept apart k lt in grind (arith, alike_tells)),
+          count_all (λ k. not_honest (class1 k)) (λ k. holds w (candidates apart k)) n (λ k lt. let f = candidate_kept apart k lt in grind (arith, alike_tells)),
         ))
         (λ y many.
         let p = held_before (candidates apart) y (λ k s. in_a_row apart k y s) (omega arith) in

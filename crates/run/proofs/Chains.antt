@@ -56,8 +56,8 @@ module _ {V R : Type 0} {kind : Ghosts V R} where
   refused_unaltered (Err why) a b p = p.refused why refl
 
   -- as many cells as were handed over
-  pub same_room : (a b : Run V R kind) → Keeps a b → length b.cells.now ≡ length a.cells.now
-  same_room a b p = ap (λ (x : Setting). x.cells) p.setting_stays
+  pub same_cells : (a b : Run V R kind) → Keeps a b → length b.cells.now ≡ length a.cells.now
+  same_cells a b p = ap (λ (x : Setting). x.cells) p.setting_stays
 
   -- between a moment and itself there is no call, and between two moments with one call between them there is that one
   pub stays : (m : Meaning) (run : Run V R kind) → Continues m [] run run

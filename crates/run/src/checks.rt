@@ -22,9 +22,9 @@ fn misfits(n: usize, t: usize, set: Set) -> bool
 pub(crate) fn check_open<K: Kind, M: Model>(
     model: &M,
     opening: &Opening<K::Row>,
-    room: usize,
+    cells: usize,
 ) -> Result<Block, Refusal>
-    ensures { FindsOr (IsOpened K.rules K.plain (M.meaning model.now) opening.now room) (why_open K.rules K.plain (M.meaning model.now) opening.now room) result }
+    ensures { FindsOr (IsOpened K.rules K.plain (M.meaning model.now) opening.now cells) (why_open K.rules K.plain (M.meaning model.now) opening.now cells) result }
 {
     let Opening {
         n,
@@ -42,7 +42,7 @@ pub(crate) fn check_open<K: Kind, M: Model>(
     if n <= counts.b + counts.e + counts.l {
         return Err(Refusal::Resilience);
     }
-    if room < needed(n) {
+    if cells < needed(n) {
         return Err(Refusal::StoreSize);
     }
     if proposals.len() != n {

@@ -71,8 +71,8 @@ impl<'a, K: Kind> Run<'a, K> {
         requires { self.now.turn ≡ Turn.Idle }
         ensures { Performs (M.meaning model.now) (asked K.rules K.plain (Call.Open opening.entry)) (said_done K.rules K.plain result) self.old self.new }
     {
-        let room = self.cells.len();
-        let block = check_open::<K, M>(model, &opening, room)?;
+        let cells = self.cells.len();
+        let block = check_open::<K, M>(model, &opening, cells)?;
         fill_opened::<K>(self.cells, opening);
         self.turn = Turn::Waiting(block);
         Ok(())

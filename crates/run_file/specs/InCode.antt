@@ -2,7 +2,7 @@
 use Rattle.std.specs.Prelude.{◌≡◌, ℕ, suc, ◌+◌, ◌^◌, ◌<◌, ◌≤◌, true, List, [], ◌∷◌, ◌++◌, map, length, take, codes, Some, None, Option, Result, Ok, Err, MatchResult, ⊤}
 use Rattle.values.specs.declared.kinds.Kind.{Ghosts}
 use Rattle.values.specs.declared.refusals.Refusal.{Refusal}
-use Rattle.values.specs.Rules.{Rules, means, words, text}
+use Rattle.values.specs.Rules.{Rules, means, numbers, text}
 use Rattle.values.specs.Cells.{shows}
 use Rattle.values.specs.declared.buffers.Buffer.{Buffer}
 use Rattle.values.specs.Added.{Puts}
@@ -17,7 +17,7 @@ use Rattle.run_file.specs.declared.parts.Parts.{Parts}
 use Rattle.run_file.specs.declared.pieces.Pieces.{Pieces}
 use Rattle.run_file.specs.declared.lines.Line.{Line}
 use Rattle.run_file.specs.declared.stops.Stop.{Stop}
-use Rattle.run_file.specs.Files.{word, pieces, laid_out, proposals, initial_set, round_sets, forgery_lines}
+use Rattle.run_file.specs.Files.{number_at, pieces, laid_out, proposals, initial_set, round_sets, forgery_lines}
 use Rattle.run_file.specs.Lines.{line, lines_refusal, cell_of}
 use Rattle.run_file.specs.Lines as format
 use Rattle.run_file.specs.Headers.{model_of}
@@ -54,7 +54,7 @@ lines_in p = map line (pieces_of p)
 
 -- the sets that pieces hold
 abbrev pub sets_in : Pieces → List ℕ
-sets_in p = map (λ two. word two 0) (pieces_of p)
+sets_in p = map (λ two. number_at two 0) (pieces_of p)
 
 -- the parts of a file whose offsets and length are right
 pub record IsParted (width : ℕ) (h : Header) (bytes : List ℕ) (p : Parts) : Type 0 where
@@ -73,7 +73,7 @@ pub record IsParted (width : ℕ) (h : Header) (bytes : List ℕ) (p : Parts) : 
 
 -- the first rows stand for the proposals, where these are no more than 16
 abbrev pub HasRows : {R : Type 0} → Rules → (R → List ℕ) → Pieces → List R → Type 0
-HasRows k plain proposals rows = proposals.count ≤ MOST_CONTROLLERS → map (means k plain) (take proposals.count rows) ≡ map words (pieces_of proposals)
+HasRows k plain proposals rows = proposals.count ≤ MOST_CONTROLLERS → map (means k plain) (take proposals.count rows) ≡ map numbers (pieces_of proposals)
 
 -- a file is taken apart and its proposals are read into rows, or it is refused before any call
 abbrev pub ReadsParts : {R : Type 0} → Rules → (R → List ℕ) → Header → List ℕ → List R → Result Parts Refusal → Type 0
@@ -83,7 +83,7 @@ ReadsParts k plain h bytes rows result = MatchResult result
 
 -- the open that a header and its parts ask for
 abbrev pub opens : Header → Parts → Asked
-opens h p = record { call = Open h.n h.t (map words (pieces_of p.proposals)) p.initial.0; round = None }
+opens h p = record { call = Open h.n h.t (map numbers (pieces_of p.proposals)) p.initial.0; round = None }
 
 -- the rounds that sets and lines ask for, and all calls that a header and the parts of its file do
 abbrev pub rounds_in : (sets lines : Pieces) → List Asked
@@ -165,7 +165,7 @@ IsListedOr k m cells h bytes result before after = MatchResult result
 -- what becomes of a file: its listing, which starts with `run`, obeys a law and is not long, is added to a text; or it is refused, and nothing is added
 abbrev pub Becomes : (Law : List ℕ → Type 0) → Report → Result ⊤ Stop → (before after : Buffer) → Type 0
 Becomes Law report result before after = MatchResult result
-    (λ _. (words : List ℕ) × (report ≡ accepted words) × Puts before words after × (length words ≤ least_room) × (take 3 words ≡ codes "run") × Law words)
+    (λ _. (text : List ℕ) × (report ≡ accepted text) × Puts before text after × (length text ≤ least_room) × (take 3 text ≡ codes "run") × Law text)
     (λ stop. (report ≡ refused stop) × Puts before [] after)
 
 -- the same of a file with this header, by the rules of its values

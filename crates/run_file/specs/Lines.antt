@@ -4,10 +4,10 @@ use Rattle.std.specs.List.{list_all}
 use Rattle.std.specs.Result.{result_err}
 use Rattle.values.specs.declared.refusals.Refusal.{Refusal}
 use Rattle.values.specs.declared.refusals.Refusal.TheVariants.{ForgeryLine}
-use Rattle.values.specs.Rules.{Rules, words, reads}
+use Rattle.values.specs.Rules.{Rules, numbers, reads}
 use Rattle.values.specs.Cells.{Held}
 use Rattle.protocol.specs.Machine.{◌when◌, ◌then◌}
-use Rattle.run_file.specs.Files.{byte, word}
+use Rattle.run_file.specs.Files.{byte, number_at}
 
 pub record Line : Type 0 where
   pub round : ℕ
@@ -22,7 +22,7 @@ pub record Line : Type 0 where
 -- the line in 6 bytes and those of a value
 abbrev pub line : List ℕ → Line
 line bytes = record {
-  round = word bytes 0;
+  round = number_at bytes 0;
   sender = byte bytes 2;
   receiver = byte bytes 3;
   column = byte bytes 4;
@@ -49,4 +49,4 @@ lines_refusal k rounds last (x ∷ rest) = line_refusal k rounds last x then lin
 
 -- the cell that a line forges
 abbrev pub cell_of : Line → Held
-cell_of x = if x.tag == 0 then None else Some (words x.value)
+cell_of x = if x.tag == 0 then None else Some (numbers x.value)

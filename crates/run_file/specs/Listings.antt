@@ -4,7 +4,7 @@ use Rattle.std.specs.Option.{option_map}
 use Rattle.values.specs.declared.refusals.Refusal.{Refusal}
 use Rattle.values.specs.declared.refusals.Refusal.TheVariants.{Layout, TextRoom}
 use Rattle.values.specs.Refusals.{number_of}
-use Rattle.values.specs.Rules.{Rules, words}
+use Rattle.values.specs.Rules.{Rules, numbers}
 use Rattle.values.specs.Setpoints.{setpoint_rules}
 use Rattle.values.specs.Sheets.{sheet_rules}
 use Rattle.models.specs.Laws.{Meaning}
@@ -39,7 +39,7 @@ module _ (k : Rules) (h : Header) (bytes : List ℕ) where
       then lines_refusal k h.rounds 0 (map line (forgery_lines k.width h bytes))
 
   abbrev pub open_of : Call
-  open_of = Open h.n h.t (map words (proposals k.width h bytes)) (initial_set k.width h bytes)
+  open_of = Open h.n h.t (map numbers (proposals k.width h bytes)) (initial_set k.width h bytes)
 
   -- the calls in their order
   abbrev pub calls_of : List Asked

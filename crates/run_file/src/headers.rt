@@ -1,4 +1,4 @@
-use crate::words::word;
+use crate::numbers::number_at;
 use models::Standard;
 use values::Refusal;
 
@@ -89,11 +89,11 @@ impl Header {
             stamps,
             n: file[3],
             t: file[4],
-            rounds: word(file, 6),
-            forgeries: word(file, 8),
-            proposals_at: word(file, 10),
-            sets_at: word(file, 12),
-            forgeries_at: word(file, 14),
+            rounds: number_at(file, 6),
+            forgeries: number_at(file, 8),
+            proposals_at: number_at(file, 10),
+            sets_at: number_at(file, 12),
+            forgeries_at: number_at(file, 14),
         })
     }
 

@@ -4,13 +4,13 @@
 mod headers;
 mod lines;
 mod listings;
+mod numbers;
 mod parts;
 mod pieces;
 mod reading;
 mod stops;
 mod texts;
 mod votes;
-mod words;
 
 pub use headers::MOST_BYTES;
 pub use listings::{LEAST_ROOM, Listing, list};

@@ -3,7 +3,7 @@ ghost use Rattle.values.specs.Refusals.{TellsWhy};
 ghost use Rattle.run_file.specs.Lines.{all_zero, line, line_refusal};
 ghost use Rattle.run_file.specs.InCode.{IsLine};
 
-use crate::words::word;
+use crate::numbers::number_at;
 use run::Place;
 use values::{Cell, Kind, Refusal};
 
@@ -28,7 +28,7 @@ impl<K: Kind> Line<K> {
         ensures refused { TellsWhy (line_refusal K.rules rounds last (line bytes.now)) result }
         ensures read { IfOk result (λ x. IsLine K.rules K.plain x (line bytes.now)) }
     {
-        let round = word(bytes, 0);
+        let round = number_at(bytes, 0);
         if round >= rounds || round < last {
             return Err(Refusal::ForgeryLine);
         }

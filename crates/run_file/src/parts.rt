@@ -2,8 +2,8 @@ ghost use Rattle.std.specs.Prelude.{◌≤◌};
 
 use crate::headers::Header;
 use crate::lines::LINE_HEAD;
+use crate::numbers::number_at;
 use crate::pieces::Pieces;
-use crate::words::word;
 use models::Set;
 use values::Refusal;
 
@@ -54,7 +54,7 @@ impl<'f> Parts<'f> {
         }
         Ok(Parts {
             proposals: Pieces::over(n, width, &file[PROPOSALS_START..]),
-            initial: Set(word(file, sets_start)),
+            initial: Set(number_at(file, sets_start)),
             sets: Pieces::over(rounds, SET_WIDTH, &file[sets_start + SET_WIDTH..]),
             lines: Pieces::over(forgeries, LINE_HEAD + width, &file[lines_start..]),
         })

@@ -9,10 +9,10 @@ ghost use Rattle.run_file.specs.InCode.{stop_at, HasRows, lines_in, Checked, Are
 
 use crate::headers::Header;
 use crate::lines::Line;
+use crate::numbers::number_at;
 use crate::parts::Parts;
 use crate::pieces::Pieces;
 use crate::stops::Stop;
-use crate::words::word;
 use models::{MOST_CONTROLLERS, Model, Set};
 use run::{Opening, Run};
 use values::{Kind, Refusal};
@@ -106,7 +106,7 @@ fn perform_rounds<K: Kind, M: Model>(
     let mut sets = sets;
     let mut round = 0;
     while let Some((set, after)) = sets.split_first() {
-        lines = perform_round(run, model, rounds, round, Set(word(set, 0)), lines)?;
+        lines = perform_round(run, model, rounds, round, Set(number_at(set, 0)), lines)?;
         sets = after;
         round += 1;
     }

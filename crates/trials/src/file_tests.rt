@@ -72,44 +72,44 @@ struct Vote<'a> {
     lines: &'a [Line],
 }
 
-fn put_word(out: &mut Buffer, word: u16) {
-    let [low, high] = word.to_le_bytes();
+fn put_number(out: &mut Buffer, number: u16) {
+    let [low, high] = number.to_le_bytes();
     out.put_byte(low);
     out.put_byte(high);
 }
 
-fn word(len: usize) -> u16 {
+fn number(len: usize) -> u16 {
     u16::try_from(len).unwrap_or(u16::MAX)
 }
 
 // Writes the file of a vote. Its offsets are what its counts give.
 fn put_vote(out: &mut Buffer, vote: &Vote) {
     let n = vote.proposals.len();
-    let sets_at = word(n).saturating_mul(2).saturating_add(16);
-    let lines_at = word(vote.sets.len())
+    let sets_at = number(n).saturating_mul(2).saturating_add(16);
+    let lines_at = number(vote.sets.len())
         .saturating_mul(2)
         .saturating_add(sets_at);
-    let [n, _] = word(n).to_le_bytes();
+    let [n, _] = number(n).to_le_bytes();
     for byte in [0, vote.model.into(), vote.stamps.into(), n, vote.t, 0] {
         out.put_byte(byte);
     }
-    put_word(out, word(vote.sets.len()).saturating_sub(1));
-    put_word(out, word(vote.lines.len()));
+    put_number(out, number(vote.sets.len()).saturating_sub(1));
+    put_number(out, number(vote.lines.len()));
     for offset in [16, sets_at, lines_at] {
-        put_word(out, offset);
+        put_number(out, offset);
     }
     for proposal in vote.proposals {
-        put_word(out, *proposal);
+        put_number(out, *proposal);
     }
     for set in vote.sets {
-        put_word(out, *set);
+        put_number(out, *set);
     }
     for (round, bytes, value) in vote.lines {
-        put_word(out, *round);
+        put_number(out, *round);
         for byte in bytes {
             out.put_byte(*byte);
         }
-        put_word(out, *value);
+        put_number(out, *value);
     }
 }
 

@@ -1,6 +1,6 @@
 ghost use Rattle.std.specs.Prelude.{◌≤◌};
 
-use values::{Buffer, Kind, words};
+use values::{Buffer, Kind, numbers};
 
 /// A part of the day in which vents may open, in minutes from midnight: from one to another that is not before it.
 #[derive(Clone, Copy, PartialEq, Eq, Debug)]
@@ -60,7 +60,7 @@ impl Kind for Window {
     }
 
     fn decode(bytes: &[u8]) -> Option<(u16, u16)> {
-        let [from, until] = words::<2>(bytes)?;
+        let [from, until] = numbers::<2>(bytes)?;
         Some((from, until))
     }
 

@@ -23,22 +23,22 @@ abbrev pub means : {R : Type 0} → Rules → (R → List ℕ) → R → List �
 means k plain row = stands k (plain row)
 
 -- the 16-bit numbers in bytes, low byte first; an odd byte at the end makes none
-abbrev pub words : List ℕ → List ℕ
-words [] = []
-words (low ∷ []) = []
-words (low ∷ high ∷ rest) = (low + high * 256) ∷ words rest
+abbrev pub numbers : List ℕ → List ℕ
+numbers [] = []
+numbers (low ∷ []) = []
+numbers (low ∷ high ∷ rest) = (low + high * 256) ∷ numbers rest
 
 -- n numbers in exactly twice as many bytes
-abbrev pub words_in : ℕ → List ℕ → Option (List ℕ)
-words_in n bytes = if length bytes == 2 * n then Some (words bytes) else None
+abbrev pub numbers_in : ℕ → List ℕ → Option (List ℕ)
+numbers_in n bytes = if length bytes == 2 * n then Some (numbers bytes) else None
 
 -- the numbers in exactly as many bytes as the width
 abbrev pub decodes : Rules → List ℕ → Option (List ℕ)
-decodes k bytes = if length bytes == k.width then Some (words bytes) else None
+decodes k bytes = if length bytes == k.width then Some (numbers bytes) else None
 
 -- reading: exactly as many bytes as the width, whose numbers keep the rule, or the refusal of a value
 abbrev pub reads : Rules → List ℕ → Result (List ℕ) Refusal
-reads k bytes = if length bytes == k.width && k.allowed (words bytes) then Ok (words bytes) else Err Value
+reads k bytes = if length bytes == k.width && k.allowed (numbers bytes) then Ok (numbers bytes) else Err Value
 
 -- what was read, by its meaning
 abbrev pub meant : {V E : Type 0} → (V → List ℕ) → Result V E → Result (List ℕ) E

@@ -1,11 +1,11 @@
 ghost use Rattle.std.specs.Prelude.{◌≡◌, ◌*◌};
-ghost use Rattle.values.specs.Rules.{words_in};
+ghost use Rattle.values.specs.Rules.{numbers_in};
 
 use std::array;
 
 /// The `N` numbers of 16 bits in exactly twice as many bytes, low byte first.
-pub fn words<const N: usize>(bytes: &[u8]) -> Option<[u16; N]>
-    ensures { result ≡ words_in N bytes.now }
+pub fn numbers<const N: usize>(bytes: &[u8]) -> Option<[u16; N]>
+    ensures { result ≡ numbers_in N bytes.now }
 {
     let (pairs, odd) = bytes.as_chunks::<2>();
     if pairs.len() != N || !odd.is_empty() {

@@ -2,7 +2,7 @@ ghost use Rattle.std.specs.Prelude.{◌≡◌, ◌≤◌, Some};
 
 use crate::buffers::Buffer;
 use crate::kinds::Kind;
-use crate::reading::words;
+use crate::reading::numbers;
 use std::fmt;
 
 /// Supply water in tenths of a degree Celsius, from 200 to 900.
@@ -79,7 +79,7 @@ impl Kind for Setpoint {
     }
 
     fn decode(bytes: &[u8]) -> Option<u16> {
-        let [tenths] = words::<1>(bytes)?;
+        let [tenths] = numbers::<1>(bytes)?;
         Some(tenths)
     }
 

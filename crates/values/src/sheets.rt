@@ -2,7 +2,7 @@ ghost use Rattle.std.specs.Prelude.{◌+◌, ◌≤◌};
 
 use crate::buffers::Buffer;
 use crate::kinds::Kind;
-use crate::reading::words;
+use crate::reading::numbers;
 
 /// How the warm water is shared among four zones, in thousandths. No sheet shares out more than all of it.
 #[derive(Clone, Copy, PartialEq, Eq, Debug)]
@@ -101,7 +101,7 @@ impl Kind for Sheet {
     }
 
     fn decode(bytes: &[u8]) -> Option<Shares> {
-        let [zone0, zone1, zone2, zone3] = words::<4>(bytes)?;
+        let [zone0, zone1, zone2, zone3] = numbers::<4>(bytes)?;
         Some(Shares {
             zone0,
             zone1,

@@ -5,7 +5,7 @@ ghost use Rattle.values.specs.Rules.{meant};
 ghost use Rattle.values.specs.Setpoints.{tenths_of};
 ghost use Rattle.poll.specs.Polls.{pieces, proposed, cells_of, sized, shown, unseen, counted, standings_of, told, Polled};
 
-use crate::polls::{Fault, Poll, Standing};
+use crate::polls::{Poll, PollError, Standing};
 use models::MOST_CONTROLLERS;
 use std::alloc::{AllocError, Global};
 use values::{Cell, Kind, Refusal, Setpoint, tally};
@@ -85,7 +85,7 @@ fn standings(heap: Global, cells: &[Cell<u16>]) -> Result<Vec<Standing>, AllocEr
 }
 
 /// Reads the proposals of one block and counts each distinct value.
-pub fn hold(heap: Global, input: &[u8]) -> Result<Poll, Fault>
+pub fn hold(heap: Global, input: &[u8]) -> Result<Poll, PollError>
     ensures { Polled input.now result }
 {
     check_size(controllers(input))?;
