@@ -39,11 +39,11 @@ pub(crate) fn work_cells(n: usize) -> usize
 // called, since no contract of a function can tell what becomes of memory that it lends in more than two parts, and a
 // struct or a tuple of such parts forgets it.
 macro_rules! parts {
-    (let ($forged:pat, $rows:pat, $v:pat, $decisions:pat, $behind:pat) = $cells:ident.$split:ident($n:expr)) => {
+    (let ($forged:pat, $rows:pat, $v:pat, $decisions:pat, $past:pat) = $cells:ident.$split:ident($n:expr)) => {
         let ($forged, rest) = $cells.$split($n * $n * $n);
         let ($rows, rest) = rest.$split($n * $n);
         let ($v, rest) = rest.$split($n);
-        let ($decisions, $behind) = rest.$split($n);
+        let ($decisions, $past) = rest.$split($n);
     };
 }
 

@@ -13,7 +13,7 @@ use Rattle.models.specs.Laws.{Meaning, Lawful}
 use Rattle.models.specs.Sets.{has}
 use Rattle.protocol.specs.Machine.{Idle, Call, Open, Seat, Close, Decision, Answer, Done, Decided}
 use Rattle.protocol.specs.Transcripts.{Transcript, Entry, Opening, Law, Agrees, Clean, Filled, Proposed, opening_in, sets_in, closes_in, cell_in, opening, sets, closes, answered}
-use Rattle.protocol.proofs.Joined.{sets_joined, closes_joined, opening_joined, answered_behind, closes_behind, open_step}
+use Rattle.protocol.proofs.Joined.{sets_joined, closes_joined, opening_joined, answered_later, closes_later, open_step}
 use Rattle.run.specs.declared.run.Run.{Run}
 use Rattle.run.specs.Runs.{setting, state, Performs}
 use Rattle.run.specs.Standing.{entry, Stands, LawWith}
@@ -144,16 +144,16 @@ module _ {V R : Type 0} {kind : Ghosts V R} (m : Meaning) (o : Opening) (rows : 
   second_at = length front + suc (length two.log + 0)
 
   first_told : answered (front ++ back) first_at ≡ Some (shows k plain a)
-  first_told = answered_behind front back 0
+  first_told = answered_later front back 0
 
   second_told : answered (front ++ back) second_at ≡ Some (shows k plain b)
-  second_told = answered_behind front back (suc (length two.log + 0)) ∙ answered_behind two.log (d2 ∷ []) 0
+  second_told = answered_later front back (suc (length two.log + 0)) ∙ answered_later two.log (d2 ∷ []) 0
 
   first_closes : closes (take first_at (front ++ back)) ≡ length seated1
-  first_closes = omega (arith, closes_behind front back 0, one.closes_are)
+  first_closes = omega (arith, closes_later front back 0, one.closes_are)
 
   second_closes : closes (take second_at (front ++ back)) ≡ length seated1 + length seated2
-  second_closes = omega (arith, closes_behind front back (suc (length two.log + 0)), closes_behind two.log (d2 ∷ []) 0, one.closes_are, two.closes_are)
+  second_closes = omega (arith, closes_later front back (suc (length two.log + 0)), closes_later two.log (d2 ∷ []) 0, one.closes_are, two.closes_are)
 
   clean : (c : ℕ) → Spared (seated1 ++ seated2) o.n c → Clean (front ++ back) o c
   clean c spared = record {
