@@ -30,8 +30,8 @@ pub(crate) fn held_by(at_least: usize, cells: usize) -> Quorum
     }
 }
 
-/// The value, as its row, that a deciding round settles on: the one of more than l + e candidates; if none, the one of
-/// more than l cells in the row that the coordinator sent; if none there either, the fallback.
+/// The value, as its row, that a deciding round settles on: one that more than l + e candidates are; else one that more
+/// than l cells hold of the row that the coordinator sent; else the fallback.
 pub(crate) fn settled<K: Kind>(
     candidates: &[Cell<K::Row>],
     row: &[Cell<K::Row>],

@@ -22,7 +22,7 @@ fn put<A: Copy>(answers: &mut [A], at: usize, answer: A)
 ///
 /// Returns how many calls were performed. The places past them stay as they are. So do the cells past those that the
 /// block needs, and all cells if no block was opened. Under a lawful model the calls that were performed, beside their
-/// answers, obey `Law`: their decisions agree.
+/// answers, obey `Law`, which says how decisions agree.
 pub fn play<K: Kind, M: Model>(
     cells: &mut [Cell<K::Row>],
     model: &M,
