@@ -10,7 +10,7 @@ use models::{Class, MOST_CONTROLLERS, Model, Moved, Set};
 use protocol::{MOST_ROUNDS, Stage};
 use values::{Kind, Refusal};
 
-// Whether a set is none that may be seated: it holds a controller that the block does not have, or more than t.
+// Whether a set is too large for a block: it holds a controller that the block does not have, or more than t.
 fn misfits(n: usize, t: usize, set: Set) -> bool
     requires { n ≤ MOST_CONTROLLERS }
     ensures { result ≡ misfits n t set.0 }

@@ -20,7 +20,7 @@ use values::{Buffer, Cell, Kind, Refusal, Setpoint, Shares, Sheet};
 pub struct Listing {
     /// How many bytes of text were written.
     pub len: usize,
-    /// Why the file is refused, or the room for its text, if one is.
+    /// Why it refused, if it did: by the file, by a call that the file asks for, or by too little room.
     pub stop: Option<Stop>,
 }
 
