@@ -33,7 +33,7 @@ impl fmt::Display for Failure {
     }
 }
 
-// Reads until the input ends or the bytes are full, and returns how many came. A read that a signal interrupts is an
+// Reads until the input ends or `room` is full, and returns how many came. A read that a signal interrupts is an
 // error like any other: a loop that tries again need not end.
 fn fill(rt: &HostRuntime, room: &mut [u8]) -> io::Result<usize>
     ensures { IfOk result (λ len. len ≤ length room.new) }

@@ -20,7 +20,7 @@ pub(crate) fn chosen<K: Kind>(cells: &[Cell<K::Row>], quorum: Quorum) -> Cell<K:
     at_place::<K>(cells, winner::<K>(cells, quorum))
 }
 
-/// The quorum that at least so many of some cells meet by holding a value, however many are filled otherwise.
+/// The quorum of a value that at least so many of some cells hold, however many are filled otherwise.
 pub(crate) fn held_by(at_least: usize, cells: usize) -> Quorum
     ensures { (result.at_least ≡ at_least) × (result.otherwise_at_most ≡ cells) }
 {

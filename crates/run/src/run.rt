@@ -165,7 +165,7 @@ impl<'a, K: Kind> Run<'a, K> {
     /// controllers' rows and decisions become empty. The counts of this model serve the whole run.
     ///
     /// Refused with the first that applies: `OutOfTurn` unless the run is idle, `BlockSize`, `FaultCount`, `Resilience`
-    /// by the model's counts for t, `StoreSize`, `ProposalCount`, `SetMembers` by the initial set.
+    /// by the model's counts for t, `StoreSize`, `ProposalCount`, `SetMembers` for the initial set.
     pub fn open<M: Model>(&mut self, model: &M, opening: Opening<K::Row>) -> Result<(), Refusal>
         ensures { Performs (M.meaning model.now) (asked K.rules K.plain (Call.Open opening.entry)) (said_done K.rules K.plain result) self.old self.new }
     {

@@ -112,8 +112,8 @@ fn list_either_kind(
 /// with the decision that it then holds; or a single line, with the number of the refusal, if the file is refused.
 /// docs/FORMAT.md says when it is refused, and how the text looks.
 ///
-/// A store is lent for each kind of values. The run keeps in the one of the file's kind, and writes only those cells of
-/// it that the block needs; fewer than these are refused with `StoreSize`, and `run::MOST_CELLS` are always enough.
+/// A store is lent for each kind of values. The run uses the one of the file's kind, and writes only those cells of it
+/// that the block needs; fewer than these are refused with `StoreSize`, and `run::MOST_CELLS` are always enough.
 ///
 /// The text goes to the front of `text`, and the bytes past it stay. If `text` has under `LEAST_ROOM` bytes nothing is
 /// written: the refusal is `TextRoom`, and the length 0.
