@@ -77,7 +77,7 @@ same_state x m (Seated b s) i = unless_same (decision_refusal b i) (Seated b s) 
 abbrev calls_in : List Asked → List Call
 calls_in = map (λ a. a.call)
 
--- the transcript of calls that are all accepted, and of more behind them
+-- the transcript of calls that are all accepted, and of more after them
 module _ (x : Setting) (m : Meaning) where
   -- what a decision answers
   abbrev pub told : State → ℕ → Answer
@@ -120,7 +120,7 @@ module _ (x : Setting) (m : Meaning) where
       let next : suc (length asked) + k ≡ suc (length asked + k) = omega arith in
       ap (answered (log s (a ∷ asked) more)) next ∙ ran_answered (step x m s a.call).0 end asked more k on.1
 
-  -- two decisions behind them, from the open on
+  -- two decisions after them, from the open on
   module _ (end : State) (asked : List Asked) (ran : run_through x m Idle asked ≡ Ok end) (i j : ℕ) where
     abbrev both : Transcript
     both = log Idle asked (Decision i ∷ Decision j ∷ [])

@@ -40,7 +40,7 @@ use Rattle.run_file.specs.Votes.{Asked, in_round, forges, lines_of, rounds_from,
 use Rattle.run_file.specs.Listings.{setting_of, calls_of}
 use Rattle.run_file.specs.Promises.{first_set, set_in, last_set, proposal_in}
 
--- what is read off piece i of some that lie one behind the other, from a place on
+-- what is read off piece i of some that lie one after another, from a place on
 piece_at : {A : Type 0} (f : List ℕ → A) (none : A) (width : ℕ) (bytes : List ℕ) (n at i : ℕ) → i < n → slice_index_or (map f (pieces width n (drop at bytes))) i none ≡ f (take width (drop (at + width * i) bytes))
 piece_at f none width bytes zero at i lt = absurd (omega arith)
 piece_at f none width bytes (suc n) at zero lt = ap (λ at. f (take width (drop at bytes))) (omega arith)

@@ -13,7 +13,7 @@ byte bytes i = slice_index bytes i
 abbrev pub number_at : List ℕ → ℕ → ℕ
 number_at bytes i = byte bytes i + byte bytes (i + 1) * 256
 
--- the first so many pieces of a width, one behind the other
+-- the first so many pieces of a width, one after another
 abbrev pub pieces : (width count : ℕ) → List ℕ → List (List ℕ)
 pieces width zero bytes = []
 pieces width (suc count) bytes = take width bytes ∷ pieces width count (drop width bytes)
@@ -36,7 +36,7 @@ module _ (width : ℕ) (h : Header) where
   abbrev pub laid_out : List ℕ → Bool
   laid_out bytes = h.proposals_at == proposals_start && h.sets_at == sets_start && h.forgeries_at == lines_start && length bytes == file_end
 
-  -- the proposals, the initial set, the sets of the rounds, and the forgery lines
+  -- the proposals, the initial set, the sets of the rounds, and the forgery lines, each from the byte where it starts
   abbrev pub proposals : List ℕ → List (List ℕ)
   proposals bytes = pieces width h.n (drop proposals_start bytes)
 

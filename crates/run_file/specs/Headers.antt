@@ -32,7 +32,7 @@ stamps_with zero = Some false
 stamps_with (suc zero) = Some true
 stamps_with (suc (suc code)) = None
 
--- the header with these codes, and the numbers that stand in the bytes behind them
+-- the header with these codes, and with the numbers that stand in the bytes after them
 abbrev pub fields : List ℕ → ValueKind → Standard → Bool → Header
 fields bytes kind model stamps = record {
   kind = kind;

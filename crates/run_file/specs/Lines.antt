@@ -33,12 +33,12 @@ line bytes = record {
 abbrev pub all_zero : List ℕ → Bool
 all_zero bytes = list_all (λ b. b == 0) bytes
 
--- a line is faulty if its round is not below the number of rounds, or is lower than the last line's, if its tag is above 1,
--- or if its tag is 0 and a byte of its value is not 0
+-- a line is faulty where its round is none of the file's or comes before the last line's, where its tag is neither 0 nor 1, and where it
+-- forges an empty cell (tag 0) but its value has a byte other than 0
 abbrev pub faulty : (rounds last : ℕ) → Line → Bool
 faulty rounds last x = nat_le rounds x.round || nat_lt x.round last || nat_lt 1 x.tag || (x.tag == 0 && not (all_zero x.value))
 
--- why a line is refused, if it is; the value is looked at where the tag is 1
+-- why a line is refused, if it is; its value is read only where the tag is 1
 abbrev pub line_refusal : Rules → (rounds last : ℕ) → Line → Option Refusal
 line_refusal k rounds last x = ForgeryLine when faulty rounds last x then (if x.tag == 1 then result_err (reads k x.value) else None)
 

@@ -9,7 +9,7 @@ use Rattle.run_file.specs.Files.{number_at}
 use Rattle.run_file.specs.Headers.{header_of, model_of}
 use Rattle.run_file.specs.Listings.{rules_of}
 
--- the text stands at the front of the buffer, and the bytes past it stay
+-- the text stands at the front of the room, and the bytes past it stay
 abbrev pub IsAtFront : (words : List ℕ) → (len : ℕ) → (before after : List ℕ) → Type 0
 IsAtFront words len before after = (len ≡ length words) × (after ≡ words ++ drop (length words) before)
 
@@ -33,7 +33,7 @@ set_in h bytes r = number_at bytes (h.sets_at + 2 * (r + 1))
 abbrev pub last_set : Header → List ℕ → ℕ
 last_set h bytes = number_at bytes (h.sets_at + 2 * h.rounds)
 
--- controller c is unseated in rounds 3c + 1 and 3c + 2
+-- controller c is a clean coordinator: unseated where its own phase collects, in round 3c + 1, and where it decides, in round 3c + 2
 pub record CleanIn (h : Header) (bytes : List ℕ) (c : ℕ) : Type 0 where
   pub controller : c < h.n
   pub collecting : has (set_in h bytes (3 * c + 1)) c ≡ false

@@ -1,4 +1,5 @@
-//! Run files: reading one, performing the run that it tells, and listing what its controllers then hold.
+//! Run files: reading one, performing the run that it tells, and listing what its controllers then hold. docs/FORMAT.md
+//! has the format.
 #![tactic(auto)]
 
 mod headers;

@@ -7,12 +7,12 @@ use crate::pieces::Pieces;
 use models::Set;
 use values::Refusal;
 
-// Where the proposals start, and the bytes of a set.
+// The byte at which the proposals start, and how many bytes a set has.
 const PROPOSALS_START: usize = 16;
 
 const SET_WIDTH: usize = 2;
 
-/// The parts of a run file behind its header.
+/// The parts of a run file after its header.
 #[derive(Clone, Copy)]
 pub(crate) struct Parts<'f> {
     /// The bytes of each controller's proposal.
@@ -33,7 +33,7 @@ impl<'f> Parts<'f> {
     ghost use Rattle.values.specs.Refusals.{TellsWhy};
     ghost use Rattle.run_file.specs.InCode.{IsParted};
 
-    /// The parts of a file, if its offsets and its length are what the counts give for values of a width.
+    /// The parts of a file, if its offsets and its length are what its counts and the width of a value give.
     pub(crate) fn of(file: &'f [u8], header: &Header, width: usize) -> Result<Parts<'f>, Refusal>
         requires { width ≤ 16 }
         ensures refused { TellsWhy (Layout when not (laid_out width header.now file.now)) result }

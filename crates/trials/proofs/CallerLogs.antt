@@ -20,7 +20,7 @@ use Rattle.run.specs.Standing.{entry, Stands, LawWith}
 use Rattle.run.proofs.Chains.{stays, performed, joined, begins, goes_on, goes_further}
 use Rattle.trials.specs.Callers.{Spared, Concludes, RunsRounds}
 
--- a transcript that answers no decision, behind another that does not
+-- a transcript that answers no decision, after another that does not
 unasked : (a b : Transcript) → ((i : ℕ) → answered a i ≡ None) → ((i : ℕ) → answered b i ≡ None) → (i : ℕ) → answered (a ++ b) i ≡ None
 unasked [] b a_none b_none i = b_none i
 unasked (e ∷ a) b a_none b_none zero = a_none zero
@@ -63,7 +63,7 @@ module _ {V R : Type 0} {kind : Ghosts V R} (m : Meaning) where
   closed_round set before seated after (Ok x) p q = then_rounds (set ∷ []) [] 0 1 before seated after p (one_call Close Done [] 1 seated after refl refl refl refl q)
   closed_round set before seated after (Err why) p q = tt
 
-  -- a whole round, behind others
+  -- a whole round, after others
   pub one_round : (seated : List ℕ) (closed set : ℕ) (first before mid after : Run V R kind) → RunsRounds m seated closed first before
       → Performs m (Seat set) Done before mid → Performs m Close Done mid after → RunsRounds m (seated ++ set ∷ []) (closed + 1) first after
   one_round seated closed set first before mid after p q r =
@@ -119,7 +119,7 @@ module _ {V R : Type 0} {kind : Ghosts V R} (m : Meaning) (o : Opening) (rows : 
   abbrev back : Transcript
   back = d1 ∷ (two.log ++ d2 ∷ [])
 
-  -- as the calls were made, one behind the other
+  -- as the calls were made, one after another
   stands : Stands (setting run) m ((front ++ d1 ∷ []) ++ two.log) end
   stands =
       goes_further mid end

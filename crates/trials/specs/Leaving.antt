@@ -1,4 +1,4 @@
--- A model of a stranger: faults stay or leave, and never come.
+-- A model written outside the library: faults stay or leave, and never come.
 use Rattle.std.specs.Prelude.{ℕ, min, Bool, if◌then◌else◌, ◌==◌, bit_and}
 use Rattle.models.specs.declared.classes.Class.{Class}
 use Rattle.models.specs.declared.classes.Class.TheVariants.{Honest, Silent, Free}

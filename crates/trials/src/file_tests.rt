@@ -6,7 +6,7 @@ use std::process::Abort;
 use std::test::Fail;
 use values::{Buffer, Cell, Refusal, Shares};
 
-// Two controllers, no upsets, six rounds.
+// Two controllers, no faults, six rounds.
 const WORKED: [u8; 34] = [
     0, 0, 0, 2, 0, 0, 6, 0, 0, 0, 16, 0, 20, 0, 34, 0, // the header
     0xf4, 1, 0x58, 2, // the proposals
@@ -30,7 +30,7 @@ fn old_sheet() -> Cell<Shares> {
     Some(shares(1, 2, 3, 4))
 }
 
-// What is answered of a file that is refused outside the rounds.
+// What `list` returns of a file that is refused outside the rounds.
 fn refused(len: usize, refusal: Refusal) -> Listing {
     Listing {
         len,
@@ -113,8 +113,8 @@ fn put_vote(out: &mut Buffer, vote: &Vote) {
     }
 }
 
-// The text that a vote's file is listed with, and the number, behind what of the vote is another than in a vote at hand:
-// its t, proposals and sets, or its lines.
+// What of a vote is another than in a vote at hand (its t, proposals and sets, or its lines), and then the text and the
+// number that its file is listed with.
 type Opened<'a> = (u8, &'a [u16], &'a [u16], &'a [u8], u8);
 
 type Lined<'a> = (&'a [Line], &'a [u8], u8);
@@ -361,7 +361,7 @@ fn a_refused_seat_is_told_with_its_round(rt: HostRuntime) {
     lines_come_to(&rt, MOVED, &FORGED_BEFORE);
 }
 
-// Whoever prints a stop prints the words of its refusal, behind its round if it has one.
+// Whoever prints a stop prints the words of its refusal, after its round if it has one.
 #[test]
 fn a_stop_is_told_in_words(rt: HostRuntime) -> Result<(), Fail> {
     let move_refused = Stop {

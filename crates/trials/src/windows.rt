@@ -2,7 +2,8 @@ ghost use Rattle.std.specs.Prelude.{◌≤◌};
 
 use values::{Buffer, Kind, numbers};
 
-/// A part of the day in which vents may open, in minutes from midnight: from one to another that is not before it.
+/// A part of the day in which vents may open, in minutes after midnight: from one to another that is not before it. Its
+/// kind is written outside the library.
 #[derive(Clone, Copy, PartialEq, Eq, Debug)]
 pub struct Window {
     from: u16,
