@@ -84,8 +84,8 @@ pub fn the_machine_obeys_its_laws()
 /// Decisions agree, whatever is called, under every lawful model.
 ///
 /// With a clean coordinator all filled decisions are equal, and each that is answered after round 3n - 1 was closed is
-/// filled. With or without one, a decision that is answered earlier is empty; and where all controllers that the model
-/// calls honest in round 0 proposed w, each filled decision is w.
+/// filled. With or without one, a decision that is answered earlier is empty; and where whoever the model calls honest
+/// in round 0 proposed w, each filled decision is w.
 pub fn decisions_agree()
     ensures { Agreement }
 {}

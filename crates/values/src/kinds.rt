@@ -13,7 +13,7 @@ use crate::refusals::Refusal;
 pub trait Kind: Sized + Drop {
     /// A value's row: how a value lies in a cell, as plain numbers under no rule.
     ///
-    /// A row that breaks the kind's rule stands for the fallback: as setpoints, the rows 100 and 950 both mean 400.
+    /// A row may break the rule, and then means the fallback: as setpoints, the rows 100 and 950 both mean 400.
     /// Where rows have `==` it compares the plain numbers, so those two differ; `same_value` compares what rows mean.
     ///
     /// A controller's row is another thing: the n cells that a controller noted in a collecting round.

@@ -6,8 +6,8 @@ use std::fmt;
 
 /// Why a call, a value or a run file was refused. Displays as its number.
 ///
-/// Here n is how many controllers a block has, t how many are seated at one time at most, and R and G how many rounds and
-/// forgery lines a run file has.
+/// Here n is how many controllers a block has, t how many are seated at one time at most, and R and G how many rounds
+/// and forgery lines a run file has.
 #[derive(Clone, Copy, PartialEq, Eq, Debug)]
 pub enum Refusal {
     /// n is 0 or above 16.
@@ -42,8 +42,8 @@ pub enum Refusal {
     Layout = 23,
     /// A value's numbers break its kind's rule, or its bytes are more or fewer than its kind's width.
     Value = 24,
-    /// A forgery line's round is R or above, or is below that of the line before; or its tag is above 1; or the tag is 0
-    /// and a byte of the value is not.
+    /// A forgery line's round is R or above, or is below that of the line before; or its tag is above 1; or the tag is
+    /// 0 and a byte of the value is not.
     ForgeryLine = 25,
     /// The text buffer is smaller than 512 bytes.
     TextRoom = 26,
