@@ -46,7 +46,7 @@ pub trait Model {
 
 /// A model that keeps the four laws, which is all that an argument about a vote has to know of it.
 pub trait LawfulModel: Model {
-    /// The model is lawful. Calling it does nothing; its promise is the theorem.
+    /// The model is lawful. Calling this does nothing; its promise is the theorem.
     fn lawful(&self)
         ensures { Lawful (Self.Model.meaning self.now) };
 }

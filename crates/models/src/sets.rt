@@ -4,8 +4,8 @@ ghost use Rattle.models.specs.Sets.{has, members};
 /// How many controllers a block has at most: a set has a bit for each.
 pub const MOST_CONTROLLERS: usize = 16;
 
-/// A set of controllers: bit i stands for controller i, so 6 is the set of controllers 1 and 2.
-// The number is how a run file has the set.
+/// A set of controllers, by the number that a run file has for it: bit i stands for controller i, so 6 is the set of
+/// controllers 1 and 2.
 #[derive(Clone, Copy, PartialEq, Eq, Debug)]
 pub struct Set(pub u16);
 

@@ -39,8 +39,7 @@ impl<M: FaultModel> FaultModel for Stamped<M> {
     }
 }
 
-/// Stamps on a lawful model make a lawful model, whatever the model. Calling it does nothing; its promise is the
-/// theorem.
+/// Stamps on a lawful model make a lawful model. Calling this does nothing; its promise is the theorem.
 pub fn stamps_keep_the_laws<M: FaultModel>(model: &M)
     ensures { Lawful (M.meaning model.now) → Lawful (stamped (M.meaning model.now)) }
 {}

@@ -119,7 +119,7 @@ impl LawfulModel for Standard {
 
 /// No count is higher than it must be: for each model an allowed move of one fault reaches all three at t = 1.
 ///
-/// Calling it does nothing; its promise is the theorem.
+/// Calling this does nothing; its promise is the theorem.
 // The laws allow no lower counts, so they and this fix the table.
 pub fn counts_are_reached(model: Standard)
     ensures { Reached (standard model) }

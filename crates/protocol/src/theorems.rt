@@ -81,11 +81,11 @@ pub fn the_machine_obeys_its_laws()
     ensures rounds { RoundsAreOfTheirCalls }
 {}
 
-/// Decisions agree, whatever is called, under every lawful model.
+/// Whatever is called on a new run, with one lawful model named throughout, its decisions obey the law of transcripts.
 ///
-/// With a clean coordinator all filled decisions are equal, and each that is answered after round 3n - 1 was closed is
-/// filled. With or without one, a decision that is answered earlier is empty; and where whoever the model calls honest
-/// in round 0 proposed w, each filled decision is w.
+/// If some controller is unseated in the last two rounds of the phase that it coordinates, all filled decisions are
+/// equal, and once round 3n - 1 is closed every decision answered is filled. Whether there is one or not, decisions
+/// before that close are empty; and if w is what all proposed who are honest in round 0, filled decisions are w.
 pub fn decisions_agree()
     ensures { Agreement }
 {}

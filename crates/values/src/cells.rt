@@ -20,7 +20,7 @@ pub struct Quorum {
 }
 
 impl Quorum {
-    /// Whether a value's two counts meet it, which `tally` returns: held at least so often, filled otherwise at most.
+    /// Whether a value's two counts, as `tally` returns them, meet the two bounds.
     pub fn is_met(self, counts: (usize, usize)) -> bool
         ensures { result ≡ meets self.at_least self.otherwise_at_most counts.0 counts.1 }
     {
