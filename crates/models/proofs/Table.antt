@@ -24,7 +24,8 @@ Three s before after t =
     let most = (standard s).counts t in
     (count (λ i. not_honest (r i)) 16 ≤ most.b) × (count (λ i. free (r i)) 16 ≤ most.e) × (count (λ i. forger (r i)) 16 ≤ most.l)
 
--- the controllers whose class passes q are at most `most` times t: x for one that was in the set before, and y for one that is in the set after
+-- at most `most` times t controllers have a class that passes q: x for each that was in the set before, and y for each
+-- that is in the set after
 module _ (c : Bool → Bool → Class) {m : ℕ → ℕ → ℕ → Bool} {before after t : ℕ} (v : Move m before after t) where
   abbrev by : (q : Class → Bool) (x y most : ℕ) → T (leb (x + y) most) → ((was is : Bool) → tick (q (c was is)) ≤ x * tick was + y * tick is)
       → count (λ i. q (c (has before i) (has after i))) 16 ≤ most * min t 15
@@ -52,7 +53,7 @@ table_lawful s = record {
   stays = λ set t _. same_allowed s set;
 }
 
--- what reaches the counts: one fault that moves from controller 0 to controller 1, or where it cannot move stays at 0
+-- what reaches the counts: one fault that moves from controller 0 to controller 1, or stays at 0 where it cannot move
 few : Few 1 1 × Few 2 1
 unfolding members count
 few = (record { bits = lit< tt; few = omega arith }, record { bits = lit< tt; few = omega arith })

@@ -3,14 +3,14 @@ use Rattle.models.specs.declared.classes.Class.{Class}
 use Rattle.models.specs.declared.classes.Class.TheVariants.{Honest, Silent, Uniform, Free}
 use Rattle.models.specs.Laws.{Meaning}
 
--- who is free becomes uniform
+-- stamps make a free controller uniform, and leave every other class
 abbrev pub stamp : Class → Class
 stamp Honest = Honest
 stamp Silent = Silent
 stamp Uniform = Uniform
 stamp Free = Uniform
 
--- nobody is free, so e is 0; all else is the model's below
+-- a model with stamps: e is 0, since nobody is free; moves, b and l are those of the model below
 abbrev pub stamped : Meaning → Meaning
 stamped m = record {
   allowed = m.allowed;

@@ -8,7 +8,7 @@ use std::io::Read;
 use std::process::ExitCode;
 use std::{fmt, io};
 
-// One byte more than the largest block has: enough to see that an input is too long.
+// One byte more than the largest block has, which is enough to see that an input is too long.
 const MOST_BYTES: u64 = 2 * MOST_CONTROLLERS as u64 + 1;
 
 // Why the program ends without a poll. Displays as one line for people.

@@ -9,12 +9,12 @@ mod counting;
 
 pub use counting::hold;
 
-/// What the controllers of a block propose, and how each distinct value stands, in order of first appearance.
+/// What the controllers of a block propose, and how each distinct value stands. Displays as lines for people.
 #[derive(Drop)]
 pub struct Poll {
     /// What each controller proposes, from controller 0 on, or why its bytes are refused.
     pub proposals: Vec<Result<Setpoint, Refusal>>,
-    /// A standing for each distinct value.
+    /// A standing for each distinct value, in the order in which the values first appear.
     pub standings: Vec<Standing>,
 }
 
@@ -68,9 +68,9 @@ impl fmt::Display for Poll {
 /// Why no poll was held. Displays as one line for people.
 #[derive(Drop)]
 pub enum PollError {
-    /// The block is refused.
+    /// The block is refused, with `BlockSize`.
     Refused(Refusal),
-    /// There is not memory enough.
+    /// The heap has not enough memory for the poll.
     NoMemory,
 }
 
@@ -83,8 +83,7 @@ impl fmt::Display for PollError {
     }
 }
 
-// Both by hand, since `hold` promises which error comes: the `From` that `thiserror` derives has no contract, and a
-// `map_err` at each `?` is no plainer.
+// By hand: `hold` promises which error comes, and the `From` that `thiserror` derives has no contract.
 impl From<AllocError> for PollError {
     ghost from_gives = { λ _ r. r ≡ NoMemory };
 

@@ -1,4 +1,4 @@
--- What it says of a set that a call which takes it was not refused, and what lawful models then answer.
+-- What an accepted call says of the set that it takes, and what lawful models then return.
 use Rattle.std.proofs.Common.{◌≡◌, ℕ, ◌+◌, ◌/◌, ◌^◌, ◌<◌, ◌≤◌, Bool, true, false, List, length, None, sym, ap, ◌∙◌, arith}
 use Rattle.std.proofs.lemmas.Bool.Decides.{nat_tests}
 use Rattle.std.proofs.Math.Pow.{pow_mono}

@@ -11,13 +11,14 @@ use Rattle.protocol.specs.Rounds.{told, proposed, maintained, held_by}
 use Rattle.protocol.proofs.Counting.{count_cover, count_all, count_mono, count_witness}
 use Rattle.protocol.proofs.Choosing.{chosen_qualifies, chosen_only, held_only}
 
--- at most b of the n are not honest, at most e are free, and at most l are free or uniform
+-- the counts b, e and l bound the classes of the n senders
 pub record Behave (n : ℕ) (most : Counts) (class : ℕ → Class) : Type 0 where
   pub faults : count (λ j. not_honest (class j)) n ≤ most.b
   pub frees : count (λ j. free (class j)) n ≤ most.e
   pub forgers : count (λ j. forger (class j)) n ≤ most.l
 
--- what a receiver hears, by sender: `own` was sent by those who are honest, `same` by those who are uniform, `apart` by those who are free
+-- what a receiver hears, by sender: honest ones sent `own`, uniform ones the forged `same`, and free ones the forged
+-- `apart`
 module _ (n : ℕ) (most : Counts) (big : most.b + most.e + most.l < n) (class : ℕ → Class) (k : Behave n most class) (own same : ℕ → Held) where
   abbrev pub hears : (ℕ → Held) → ℕ → Held
   hears apart j = told (class j) (own j) (same j) (apart j)

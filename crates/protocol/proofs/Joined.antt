@@ -1,4 +1,5 @@
--- What callers need: laws of lists of calls that are made one behind the other, and what a call that was accepted says of the states before and after it.
+-- What callers need: laws of two lists of calls that are made one after the other, and what it says of the states
+-- before and after a call that it was accepted.
 use Rattle.std.specs.Option.{option_or}
 use Rattle.std.proofs.Common.{◌≡◌, ℕ, zero, suc, ◌+◌, ◌<◌, ◌≤◌, true, List, [], ◌∷◌, ◌++◌, length, take, Some, None, Option, refl, sym, ap, ◌∙◌, arith}
 use Rattle.std.proofs.lemmas.List.{append_assoc, take-append-le}

@@ -377,7 +377,7 @@ fn a_stop_is_told_in_words(rt: HostRuntime) -> Result<(), Fail> {
     let words = file_refused.to_string(rt.alloc())?;
     assert_eq!(rt;
         words.as_str(),
-        "a code in the header has no meaning, or byte 5 is not 0"
+        "the header has an unknown code for the kind, the model or stamps, or its byte 5 is not 0"
     );
     Ok(())
 }
