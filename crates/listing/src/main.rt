@@ -33,8 +33,8 @@ impl fmt::Display for Failure {
     }
 }
 
-// Reads what comes until it ends or the room is full, and tells how many bytes came. A read that a signal
-// interrupts is an error like any other, since a loop that tries again need not end.
+// Reads until the input ends or `room` is full, and returns how many came. A read that a signal interrupts is an
+// error like any other: a loop that tries again need not end.
 fn fill(rt: &HostRuntime, room: &mut [u8]) -> io::Result<usize>
     ensures { IfOk result (λ len. len ≤ length room.new) }
 {
@@ -67,12 +67,12 @@ fn list_input(rt: &HostRuntime) -> Result<(), Failure> {
     }
 }
 
-// By `ExitCode`, since an error that `main` returns is printed for programmers.
+// It returns an `ExitCode`, since an error that `main` returns is printed for programmers.
 fn main(rt: HostRuntime) -> ExitCode {
     match list_input(&rt) {
         Ok(()) => ExitCode::SUCCESS,
         Err(failure) => {
-            // Where not even this can be written, the status is left to tell.
+            // Where not even this line can be written, the status still tells.
             let _ = eprintln!(rt; "{failure}");
             ExitCode::FAILURE
         }

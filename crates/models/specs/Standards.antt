@@ -1,4 +1,4 @@
--- The five models, one row of a table for each. Assumes nothing.
+-- The five models, by a table with an entry for each. Assumes nothing.
 use Rattle.std.specs.Prelude.{◌≡◌, ℕ, ◌*◌, min, Bool, true, if◌then◌else◌, List, [], ◌∷◌, Some, None, Option, Result, MatchOption, ◌==◌, ◌≢◌, slice_index_or}
 use Rattle.std.specs.Option.{ok_or}
 use Rattle.std.specs.Result.{result_ok}
@@ -12,37 +12,38 @@ use Rattle.models.specs.declared.standards.Standard.TheVariants.{Aware, Unaware,
 use Rattle.models.specs.Sets.{has}
 use Rattle.models.specs.Laws.{Meaning}
 
--- a model's row: its code, the moves that it allows, the classes of those in both sets, in the set now only and in the set before only,
--- and how many times t the counts b, e and l are
+-- a model's entry: its code, the moves that it allows, the class of a controller that is in both sets, in the set after
+-- only and in the set before only, and how many times t its counts are
 pub record Entry : Type 0 where
   pub code : ℕ
-  pub moves : (before now : ℕ) → Bool
+  pub moves : (before after : ℕ) → Bool
   pub in_both : Class
-  pub in_now_only : Class
+  pub in_after_only : Class
   pub in_before_only : Class
   pub times : Counts
 
 abbrev any_move : ℕ → ℕ → Bool
-any_move before now = true
+any_move before after = true
 
 abbrev same_set : ℕ → ℕ → Bool
-same_set before now = before == now
+same_set before after = before == after
 
--- what a code past the table has, which is no model's
+-- what stands past the table of multiples; no model has such a code
 abbrev past_table : Counts
 past_table = record { b = 0; e = 0; l = 0 }
 
--- the multiples are those of the code, in its constant table
+-- an entry, whose multiples stand in the constant table at its code
 abbrev row : ℕ → (ℕ → ℕ → Bool) → Class → Class → Class → Entry
-row code moves both now_only before_only = record {
+row code moves both after_only before_only = record {
   code = code;
   moves = moves;
   in_both = both;
-  in_now_only = now_only;
+  in_after_only = after_only;
   in_before_only = before_only;
   times = slice_index_or MULTIPLES code past_table;
 }
 
+-- the table of the five models
 abbrev pub entry : Standard → Entry
 entry Aware = row 0 any_move Free Free Silent
 entry Unaware = row 1 any_move Free Free Uniform
@@ -53,19 +54,19 @@ entry Fixed = row 4 same_set Free Free Free
 abbrev pub code_of : Standard → ℕ
 code_of s = (entry s).code
 
--- the class by whether a controller was in the set before and is in the set now; in neither set it is honest
+-- the class of a controller, by whether it was in the set before and is in the set after; in neither set it is honest
 abbrev pub class_in : Entry → (was is : Bool) → Class
-class_in e was is = if is then (if was then e.in_both else e.in_now_only) else (if was then e.in_before_only else Honest)
+class_in e was is = if is then (if was then e.in_both else e.in_after_only) else (if was then e.in_before_only else Honest)
 
--- each count is its multiple of t, where a t above 15 is read as 15
+-- each count is its multiple of t, or of 15 where t is above 15
 abbrev pub times_t : Counts → ℕ → Counts
 times_t m t = record { b = m.b * min t 15; e = m.e * min t 15; l = m.l * min t 15 }
 
--- what a model of the table answers
+-- what a model of the table returns
 abbrev pub standard : Standard → Meaning
 standard s = record {
-  allowed = λ before now t. (entry s).moves before now;
-  class = λ before now t i. class_in (entry s) (has before i) (has now i);
+  allowed = λ before after t. (entry s).moves before after;
+  class = λ before after t i. class_in (entry s) (has before i) (has after i);
   counts = λ t. times_t (entry s).times t;
 }
 
@@ -78,11 +79,11 @@ with_code_among (s ∷ rest) code = if code_of s == code then Some s else with_c
 abbrev pub with_code : ℕ → Option Standard
 with_code = with_code_among (Aware ∷ Unaware ∷ Buffered ∷ Carried ∷ Fixed ∷ [])
 
--- the law of codes: the model has the code; or no model has it
+-- the law of codes: the result is a model with the code; or there is none, and no model has it
 abbrev pub HasCode : ℕ → Option Standard → Type 0
 HasCode code r = MatchOption r ((s : Standard) → code_of s ≢ code) (λ s. code_of s ≡ code)
 
--- Reading a code: the model with it, or an error that tells the code.
+-- reading a code: the model with it, or an error that tells the code
 pub record Decodes (code : ℕ) (r : Result Standard UnknownModel) : Type 0 where
   pub value : r ≡ ok_or (with_code code) (record { 0 = code })
   pub law : HasCode code (result_ok r)

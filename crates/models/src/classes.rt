@@ -1,17 +1,17 @@
-/// How a controller behaves as a sender in one round.
+/// How a controller sends in one round.
 #[derive(Clone, Copy, PartialEq, Eq, Debug)]
 pub enum Class {
     /// It sends what the protocol says.
     Honest,
     /// It sends nothing.
     Silent,
-    /// It sends one forged message to all.
+    /// It sends a forged message, the same to all.
     Uniform,
-    /// It sends a forged message of its own to each receiver.
+    /// It sends forged messages, to each receiver another if it likes.
     Free,
 }
 
-/// How many controllers of a block may misbehave in one round.
+/// How many controllers of a block misbehave in one round at most.
 #[derive(Clone, Copy, PartialEq, Eq, Debug)]
 pub struct Counts {
     /// At most so many are not honest.

@@ -7,6 +7,6 @@ pub struct Moved {
     pub before: Set,
     /// Who is seated after it.
     pub after: Set,
-    /// How many faults there are at most; a number above 15 is read as 15.
+    /// How many controllers are seated at one time at most. A model returns for more than 15 what it does for 15.
     pub t: usize,
 }

@@ -1,11 +1,11 @@
 ghost use Rattle.std.specs.Prelude.{◌≡◌};
 ghost use Rattle.models.specs.Sets.{has, members};
 
-/// No block has more controllers: a set has a bit for each.
+/// How many controllers a block has at most: a set has a bit for each.
 pub const MOST_CONTROLLERS: usize = 16;
 
-/// A set of controllers: bit i stands for controller i.
-// Sixteen bits and no set of std, which would allocate: a set comes from a file as this number.
+/// A set of controllers, by the number that a run file has for it: bit i stands for controller i, so 6 is the set of
+/// controllers 1 and 2.
 #[derive(Clone, Copy, PartialEq, Eq, Debug)]
 pub struct Set(pub u16);
 

@@ -6,8 +6,10 @@ use crate::classes::{Class, Counts};
 use crate::moves::Moved;
 use crate::{LawfulModel, Model as FaultModel};
 
-/// A model whose controllers stamp what they send by a trusted counter: what is sent once cannot be told
-/// otherwise to another, so nobody is free.
+/// Stamps over a model: whoever would be free is uniform, e is 0, and all else is the model's.
+///
+/// Each message is stamped by a trusted counter (Pan, Potop-Butucaru, LIPIcs.OPODIS.2025.7), so that nobody can tell
+/// two receivers different things under one stamp.
 #[derive(Clone, Copy)]
 pub struct Stamped<M>(pub M);
 
@@ -37,7 +39,7 @@ impl<M: FaultModel> FaultModel for Stamped<M> {
     }
 }
 
-/// Stamps on a lawful model make a lawful model, whatever the model.
+/// Stamps on a lawful model make a lawful model. Calling this does nothing; its promise is the theorem.
 pub fn stamps_keep_the_laws<M: FaultModel>(model: &M)
     ensures { Lawful (M.meaning model.now) → Lawful (stamped (M.meaning model.now)) }
 {}

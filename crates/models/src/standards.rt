@@ -9,22 +9,24 @@ use crate::{LawfulModel, Model as FaultModel};
 use std::error::Error;
 use std::fmt;
 
-/// The five models of the literature.
+/// Five models of the literature.
 #[derive(Clone, Copy, PartialEq, Eq, Debug)]
 pub enum Standard {
-    /// A controller knows that it was left, and keeps silent for a round.
+    /// A controller that a fault left knows it, and is silent for a round (Garay 1994).
     Aware = 0,
-    /// A controller does not know that it was left, and tells all the same from its scrambled memory.
+    /// A controller that a fault left does not know it, and sends from scrambled memory, the same to all
+    /// (Nguyen, Bonnet, Défago, Potop-Butucaru, IS-RR-2014-004).
     Unaware = 1,
-    /// A fault leaves messages behind in the controller's send buffer.
+    /// A fault leaves prepared messages in a send buffer, so the controller that it left is free for one round more
+    /// (Sasaki, Yamauchi, Kijima, Yamashita 2013).
     Buffered = 2,
-    /// A fault travels with the messages, so it arrives after its new host has sent.
+    /// A fault travels with the messages, so it arrives after its new host has sent (Buhrman, Garay, Hoepman 1995).
     Carried = 3,
-    /// A fault never moves.
+    /// A fault never moves: the classical case.
     Fixed = 4,
 }
 
-// How many times t the counts of each model are, by its code. The definitions read this table, so its numbers stand once.
+// How many times t the counts of a model are, by its code. The definitions read this table too.
 const MULTIPLES: [Counts; 5] = [
     Counts { b: 2, e: 1, l: 1 },
     Counts { b: 2, e: 1, l: 2 },
@@ -47,11 +49,10 @@ impl fmt::Display for UnknownModel {
 
 impl Error for UnknownModel {}
 
-// By hand: no derive of std makes a `From`, and the gate refuses an impl by a derive of our own.
 impl From<Standard> for u8 {
     ghost from_gives = { λ model code. code ≡ code_of model };
 
-    /// The number by which files name the model.
+    /// The code by which run files name the model, 0 to 4.
     fn from(model: Standard) -> u8 {
         model as u8
     }
@@ -62,7 +63,7 @@ impl TryFrom<u8> for Standard {
 
     ghost try_from_gives = { Decodes };
 
-    /// The model that a code names; other codes name none.
+    /// The model with a code; for a code above 4 an error that tells it.
     fn try_from(code: u8) -> Result<Standard, UnknownModel> {
         match code {
             0 => Ok(Standard::Aware),
@@ -116,8 +117,10 @@ impl LawfulModel for Standard {
     fn lawful(&self) {}
 }
 
-/// No multiple in the table is more than it must be: a move of one fault reaches all three counts of its model.
-// The laws allow no less, so this and they fix the table.
+/// No count is higher than it must be: for each model an allowed move of one fault reaches all three at t = 1.
+///
+/// Calling this does nothing; its promise is the theorem.
+// The laws allow no lower counts, so they and this fix the table.
 pub fn counts_are_reached(model: Standard)
     ensures { Reached (standard model) }
 {}

@@ -9,8 +9,8 @@ use Rattle.values.specs.Setpoints.{setpoint_rules, tenths_of}
 use Rattle.values.specs.Cells.{Held, alike, shows, holders_in, others_in}
 use Rattle.poll.specs.declared.polls.Standing.{Standing}
 use Rattle.poll.specs.declared.polls.Poll.{Poll}
-use Rattle.poll.specs.declared.polls.Fault.{Fault}
-use Rattle.poll.specs.declared.polls.Fault.TheVariants.{Refused, NoMemory}
+use Rattle.poll.specs.declared.polls.PollError.{PollError}
+use Rattle.poll.specs.declared.polls.PollError.TheVariants.{Refused, NoMemory}
 
 -- the input in pieces of two bytes, one for each controller; an odd byte at the end is a piece of its own
 abbrev pub pieces : List ℕ → List (List ℕ)
@@ -44,21 +44,23 @@ abbrev pub distinct : List Held → ℕ → List (List ℕ)
 distinct cells zero = []
 distinct cells (suc n) = distinct cells n ++ first_shown cells n
 
--- a value with how many cells hold it and how many are filled otherwise
+-- how a value stands: how many cells hold it, and how many are filled otherwise
 abbrev pub counted : List Held → List ℕ → List ℕ × ℕ × ℕ
 counted cells v = (v, holders_in cells v, others_in cells v)
 
+-- how each distinct value stands, in order of first appearance
 abbrev pub standings_of : List Held → List (List ℕ × ℕ × ℕ)
 standings_of cells = map (counted cells) (distinct cells (length cells))
 
--- The law of the standings: a value has one if some cell holds it, and else none.
+-- the law of the standings: a value has one if some cell holds it, and else none
 abbrev pub Once : List Held → List (List ℕ × ℕ × ℕ) → Type 0
 Once cells all = (v : List ℕ) → count_by (λ s. alike s.0 v) all ≡ min 1 (holders_in cells v)
 
--- what a cell of setpoints holds, and what a standing says
+-- what a cell of setpoints holds
 abbrev pub shown : Option ℕ → Held
 shown c = shows setpoint_rules (λ row. row ∷ []) c
 
+-- what a standing says: a value, how many cells hold it, and how many are filled otherwise
 abbrev pub told : Standing → List ℕ × ℕ × ℕ
 told s = (tenths_of s.value, s.holding, s.otherwise)
 
@@ -66,15 +68,15 @@ told s = (tenths_of s.value, s.holding, s.otherwise)
 abbrev pub line_of : Standing → List ℕ
 line_of s = codes "value " ++ (text (tenths_of s.value) ++ (codes ": held by " ++ (decimal s.holding ++ (codes ", filled otherwise " ++ decimal s.otherwise))))
 
--- The poll of an input: the proposals in it, and the standings of their cells.
+-- the poll of an input: the proposals in it, and the standings of their cells
 pub record PollOf (input : List ℕ) (p : Poll) : Type 0 where
   pub size : sized (length (pieces input)) ≡ Ok tt
   pub proposals : map (meant tenths_of) p.proposals.items ≡ proposed input
   pub standings : map told p.standings.items ≡ standings_of (cells_of (proposed input))
   pub once : Once (cells_of (proposed input)) (map told p.standings.items)
 
--- A poll; or the refusal of a block with no controller or more than 16, which comes before any want of memory.
-abbrev pub Polled : List ℕ → Result Poll Fault → Type 0
+-- a poll; or the refusal of a block that has no controller or more than 16; or else want of memory
+abbrev pub Polled : List ℕ → Result Poll PollError → Type 0
 Polled input (Ok p) = PollOf input p
 Polled input (Err (Refused e)) = sized (length (pieces input)) ≡ Err e
 Polled input (Err NoMemory) = sized (length (pieces input)) ≡ Ok tt

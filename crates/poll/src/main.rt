@@ -3,12 +3,12 @@
 mod polls;
 
 use models::MOST_CONTROLLERS;
-use polls::{Fault, hold};
+use polls::{PollError, hold};
 use std::io::Read;
 use std::process::ExitCode;
 use std::{fmt, io};
 
-// One byte more than the largest block has: enough to see that an input is too long.
+// One byte more than the largest block has, which is enough to see that an input is too long.
 const MOST_BYTES: u64 = 2 * MOST_CONTROLLERS as u64 + 1;
 
 // Why the program ends without a poll. Displays as one line for people.
@@ -19,7 +19,7 @@ enum Failure {
     // The text cannot be written.
     Write(io::Error),
     // No poll is held.
-    Held(Fault),
+    Held(PollError),
 }
 
 impl fmt::Display for Failure {
@@ -27,7 +27,7 @@ impl fmt::Display for Failure {
         match self {
             Failure::Read(error) => write!(f, "the proposals cannot be read: {error}"),
             Failure::Write(error) => write!(f, "the poll cannot be written: {error}"),
-            Failure::Held(fault) => write!(f, "{fault}"),
+            Failure::Held(error) => write!(f, "{error}"),
         }
     }
 }
@@ -41,11 +41,11 @@ fn poll_input(rt: &HostRuntime) -> Result<(), Failure> {
         .map_err(Failure::Read)?;
     match hold(rt.alloc(), &input) {
         Ok(poll) => print!(rt; "{poll}").map_err(Failure::Write),
-        Err(fault) => {
-            if let Fault::Refused(refusal) = &fault {
+        Err(error) => {
+            if let PollError::Refused(refusal) = &error {
                 println!(rt; "refused {refusal}").map_err(Failure::Write)?;
             }
-            Err(Failure::Held(fault))
+            Err(Failure::Held(error))
         }
     }
 }

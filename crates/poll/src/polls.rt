@@ -1,5 +1,5 @@
 ghost use Rattle.std.specs.Prelude.{◌≡◌, Some};
-ghost use Rattle.poll.specs.declared.polls.Fault.TheVariants.{Refused, NoMemory};
+ghost use Rattle.poll.specs.declared.polls.PollError.TheVariants.{Refused, NoMemory};
 
 use std::alloc::AllocError;
 use std::fmt;
@@ -9,12 +9,12 @@ mod counting;
 
 pub use counting::hold;
 
-/// What the controllers of a block propose, and how each distinct value stands, in order of first appearance.
+/// What the controllers of a block propose, and how each distinct value stands. Displays as lines for people.
 #[derive(Drop)]
 pub struct Poll {
     /// What each controller proposes, from controller 0 on, or why its bytes are refused.
     pub proposals: Vec<Result<Setpoint, Refusal>>,
-    /// A standing for each distinct value.
+    /// A standing for each distinct value, in the order in which the values first appear.
     pub standings: Vec<Standing>,
 }
 
@@ -67,36 +67,35 @@ impl fmt::Display for Poll {
 
 /// Why no poll was held. Displays as one line for people.
 #[derive(Drop)]
-pub enum Fault {
-    /// The block is refused.
+pub enum PollError {
+    /// The block is refused, with `BlockSize`.
     Refused(Refusal),
-    /// There is not memory enough.
+    /// The heap has not enough memory for the poll.
     NoMemory,
 }
 
-impl fmt::Display for Fault {
+impl fmt::Display for PollError {
     fn fmt<W: fmt::Write>(&self, f: &mut fmt::Formatter<W>) -> fmt::Result {
         f.write_str(match self {
-            Fault::Refused(refusal) => refusal.meaning(),
-            Fault::NoMemory => "there is not memory enough",
+            PollError::Refused(refusal) => refusal.meaning(),
+            PollError::NoMemory => "there is not memory enough",
         })
     }
 }
 
-// Both by hand, since `hold` promises which error comes: the `From` that `thiserror` derives has no contract, and a
-// `map_err` at each `?` is no plainer.
-impl From<AllocError> for Fault {
+// By hand: `hold` promises which error comes, and the `From` that `thiserror` derives has no contract.
+impl From<AllocError> for PollError {
     ghost from_gives = { λ _ r. r ≡ NoMemory };
 
-    fn from(_: AllocError) -> Fault {
-        Fault::NoMemory
+    fn from(_: AllocError) -> PollError {
+        PollError::NoMemory
     }
 }
 
-impl From<Refusal> for Fault {
+impl From<Refusal> for PollError {
     ghost from_gives = { λ e r. r ≡ Refused e };
 
-    fn from(refusal: Refusal) -> Fault {
-        Fault::Refused(refusal)
+    fn from(refusal: Refusal) -> PollError {
+        PollError::Refused(refusal)
     }
 }

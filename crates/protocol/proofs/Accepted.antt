@@ -1,4 +1,4 @@
--- What it says of a set that a call which takes it was not refused, and what lawful models then answer.
+-- What an accepted call says of the set that it takes, and what lawful models then return.
 use Rattle.std.proofs.Common.{◌≡◌, ℕ, ◌+◌, ◌/◌, ◌^◌, ◌<◌, ◌≤◌, Bool, true, false, List, length, None, sym, ap, ◌∙◌, arith}
 use Rattle.std.proofs.lemmas.Bool.Decides.{nat_tests}
 use Rattle.std.proofs.Math.Pow.{pow_mono}
@@ -8,7 +8,7 @@ use Rattle.values.specs.Counting.{count}
 use Rattle.models.specs.declared.classes.Class.{Class}
 use Rattle.models.specs.declared.classes.Counts.{Counts}
 use Rattle.models.specs.Sets.{has, members}
-use Rattle.models.specs.Laws.{faulty, free, forging, Meaning, Few, Move, Kept}
+use Rattle.models.specs.Laws.{not_honest, free, forger, Meaning, Few, Move, Kept}
 use Rattle.protocol.specs.Machine.{Setting, Block, needed, misfits, open_refusal, seat_refusal, decision_refusal}
 use Rattle.protocol.proofs.Counting.{count_mono, count_within}
 use Rattle.protocol.proofs.Hearing.{Behave}
@@ -58,9 +58,9 @@ decision_accepted b i e = grind (arith, nat_tests)
 -- a lawful model's counts bound the classes of a block
 pub behaves : (n : ℕ) (most : Counts) (class known : ℕ → Class) (before now : ℕ) → n ≤ 16 → ((i : ℕ) → i < n → class i ≡ known i) → Kept known most before now → Behave n most class
 behaves n most class known before now small same k = record {
-  faults = omega (arith, k.faults, bound faulty);
+  faults = omega (arith, k.faults, bound not_honest);
   frees = omega (arith, k.frees, bound free);
-  forgers = omega (arith, k.forgers, bound forging);
+  forgers = omega (arith, k.forgers, bound forger);
 }
   where
     bound : (q : Class → Bool) → count (λ i. q (class i)) n ≤ count (λ i. q (known i)) 16

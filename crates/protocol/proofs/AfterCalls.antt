@@ -1,4 +1,5 @@
--- What calls that all name one model leave: blocks with its counts, and rounds with its classes. So the comparisons of single rounds hold of whole lists.
+-- What calls that all name one model leave: blocks with its counts, and rounds with its classes. So what is compared of
+-- single rounds holds of whole lists of calls.
 use Rattle.std.proofs.Common.{◌≡◌, ℕ, List, [], ◌∷◌, Some, None, Option, refl, ap, ◌∙◌, subst, arith}
 use Rattle.std.proofs.lemmas.Bool.Decides.{nat_tests}
 use Rattle.values.specs.declared.refusals.Refusal.{Refusal}
@@ -110,7 +111,7 @@ runs_after_calls m process algorithm cured runs sends x calls b s left i i_in ou
     subst (λ (p : Sending). algorithm b.n b.t b.round x.fallback p (process (b.memory i)) (λ receiver. hearing x b s receiver i) (hearing x b s i) (process ((closed x b s).memory i)))
     (class_is x m calls b s left i ∙ sends b s.set i i_in out) (runs x b s (is_left x m calls b s left).0 i i_in out)
 
--- under stamped carried whoever was not in the last set is honest
+-- under stamped carried a controller that is not in the last set is honest
 pub sends_after_calls : SendsAfterCalls (stamped (standard Carried))
 sends_after_calls x calls b s left i i_in out =
     subst (λ (p : Sending). Sends2 b.n b.round p (process2 (b.memory i)) (λ receiver. hearing x b s receiver i))

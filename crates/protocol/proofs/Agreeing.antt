@@ -1,4 +1,4 @@
--- The law of transcripts, from the argument about a course of rounds: an opened block and the rounds that calls come to are one.
+-- The law of transcripts, from the argument about a course of rounds: an opened block makes one with its rounds.
 use Rattle.std.proofs.Common.{◌≡◌, ℕ, zero, suc, ◌*◌, ◌<◌, ◌≤◌, Bool, true, false, cond, List, length, take, Some, None, nat_lt, ⊎_elim, refl, sym, ap, ◌∙◌, subst, arith}
 use Rattle.std.proofs.lemmas.Bool.{cases_lt}
 use Rattle.std.proofs.lemmas.Bool.Decides.{nat_tests}

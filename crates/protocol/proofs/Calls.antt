@@ -55,7 +55,7 @@ pub record Asked (b : Block) (cell : Held) : Type 0 where
   pub free : decision_refusal b controller ≡ None
   pub is : cell ≡ (b.memory controller).decision
 
--- calls on a block come to rounds with these sets, of which the last may not be closed, and to decisions asked in between
+-- calls on a block come to rounds with these sets, the last of them closed or not, and to decisions asked in between
 pub record ComesTo (x : Setting) (m : Meaning) (b : Block) (all : List ℕ) (calls : Transcript) : Type 0 where
   pub forged : ℕ → Forged
   pub legal : (k : ℕ) → k < length all → seat_refusal m (later x m b (slice_index all) forged k) (slice_index all k) ≡ None

@@ -41,7 +41,7 @@ settled_is n most fallback cand row =
     or_else _ (IfAnyElse (λ w. most.l < # n w row) (λ w. w ≡ fallback)) (held_by (suc (most.l + most.e)) cand n) _ (more_than (most.l + most.e) n cand)
     (or_else _ (λ w. w ≡ fallback) (held_by (suc most.l) row n) fallback (more_than most.l n row) refl)
 
--- what is heard from a sender of a class, wherever, is what such a process sends
+-- what is heard from a sender of a class, by any receiver, is what such a process sends
 heard_from : (c : Class) (n : ℕ) (X own : ℕ → Held) (forged : ℕ → ℕ → Held) → ((k : ℕ) → k < n → own k ≡ X k)
     → SendTuple (sending c) n X (λ receiver k. told c (own k) (forged 0 k) (forged receiver k))
 unfolding told

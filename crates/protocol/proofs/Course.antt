@@ -1,5 +1,6 @@
--- A course of rounds. Whoever is seated, and whatever is forged, one value is kept from the phase of a clean coordinator on, and a value that all
--- honest controllers begin with is kept from the start. Nothing here names a model: `Obeys` is all that is known of one.
+-- A course of rounds. Whoever is seated, and whatever is forged, one value is kept from the phase of a clean
+-- coordinator on, and a value that all honest controllers begin with is kept from the start. Nothing here names a
+-- model: `Obeys` is all that is known of one.
 use Rattle.std.proofs.Common.{◌≡◌, ℕ, zero, suc, ◌+◌, ◌-◌, ◌*◌, ◌/◌, ◌%◌, ◌<◌, ◌≤◌, Bool, false, List, Some, None, refl, sym, ap, ◌∙◌, subst, ⊎_elim, arith}
 use Rattle.std.proofs.lemmas.Bool.{cases_lt}
 use Rattle.std.proofs.lemmas.Bool.Decides.{nat_tests}
@@ -14,6 +15,7 @@ use Rattle.protocol.specs.Rounds.{Terms, Memory, heard, sends, make, closing, he
 use Rattle.protocol.proofs.Hearing.{Behave, one_proposal, proposed_kept, maintained_kept}
 use Rattle.protocol.proofs.Phase.{coordinated, settled_kept}
 
+-- rounds of one block, each with its seated controllers, classes and forgeries
 pub record Course : Type 0 where
   pub terms : Terms
   -- what each controller keeps before round 0
@@ -26,7 +28,8 @@ pub record Course : Type 0 where
   -- by round, sender, receiver and column
   pub forged : ℕ → ℕ → ℕ → ℕ → Held
 
--- what is known of the block and its model: n is large enough; how many misbehave in each round; and who is honest after whom
+-- what is known of the block and its model: n is large enough, few enough misbehave in each round, and who is honest
+-- goes by the sets
 pub record Obeys (w : Course) : Type 0 where
   pub big : w.terms.counts.b + w.terms.counts.e + w.terms.counts.l < w.terms.n
   pub behave : (r : ℕ) → r < w.rounds → Behave w.terms.n w.terms.counts (w.class r)
@@ -38,14 +41,15 @@ unfoldable pub kept : Course → ℕ → ℕ → Memory
 kept w zero = w.start
 kept w (suc r) = closing w.terms r (w.seated r) (w.class r) (w.forged r) (kept w r)
 
--- after round r all who are unseated hold x; the decision of all who are unseated is x
+-- after round r all who are unseated in it hold x as v
 abbrev pub Hold : Course → ℕ → List ℕ → Type 0
 Hold w r x = (i : ℕ) → i < w.terms.n → w.seated r i ≡ false → (kept w (suc r) i).v ≡ Some x
 
+-- after round r all who are unseated in it have the decision x
 abbrev pub Decide : Course → ℕ → List ℕ → Type 0
 Decide w r x = (i : ℕ) → i < w.terms.n → w.seated r i ≡ false → (kept w (suc r) i).decision ≡ Some x
 
--- before round r all who are honest in it hold x
+-- before round r all who are honest in it hold x as v
 abbrev pub Ready : Course → ℕ → List ℕ → Type 0
 Ready w r x = (i : ℕ) → i < w.terms.n → w.class r i ≡ Honest → (kept w r i).v ≡ Some x
 
@@ -95,7 +99,7 @@ module _ (w : Course) (rules : Obeys w) where
         (λ k. w.forged r k i 0) (λ k. w.forged r k j 0) x y
         (sym (next_v i lt (rules.left r i (omega arith) lt h)) ∙ p) (sym (next_v j lt' (rules.left r j (omega arith) lt' h')) ∙ q)
 
-    -- where the coordinator of the phase is unseated in its last two rounds, all who are unseated after it hold one value
+    -- where the phase's coordinator is unseated in its last two rounds, all who are unseated after it hold one value
     phase_agrees : coordinator_of s < w.terms.n → w.seated (suc r) (coordinator_of s) ≡ false → w.seated (suc (suc r)) (coordinator_of s) ≡ false
         → (x : List ℕ) × Hold w (suc (suc r)) x
     unfolding make

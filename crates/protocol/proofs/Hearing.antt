@@ -3,7 +3,7 @@ use Rattle.std.proofs.Common.{◌≡◌, ℕ, ◌+◌, ◌-◌, ◌<◌, ◌≤�
 use Rattle.models.specs.declared.classes.Class.{Class}
 use Rattle.models.specs.declared.classes.Class.TheVariants.{Honest}
 use Rattle.models.specs.declared.classes.Counts.{Counts}
-use Rattle.models.specs.Laws.{faulty, free, forging}
+use Rattle.models.specs.Laws.{not_honest, free, forger}
 use Rattle.values.specs.Counting.{count}
 use Rattle.values.specs.Cells.{Held, holds, differs, holders, others}
 use Rattle.values.proofs.Alike.{alike_tells}
@@ -11,13 +11,14 @@ use Rattle.protocol.specs.Rounds.{told, proposed, maintained, held_by}
 use Rattle.protocol.proofs.Counting.{count_cover, count_all, count_mono, count_witness}
 use Rattle.protocol.proofs.Choosing.{chosen_qualifies, chosen_only, held_only}
 
--- at most b of the n are not honest, at most e are free, and at most l are free or uniform
+-- the counts b, e and l bound the classes of the n senders
 pub record Behave (n : ℕ) (most : Counts) (class : ℕ → Class) : Type 0 where
-  pub faults : count (λ j. faulty (class j)) n ≤ most.b
+  pub faults : count (λ j. not_honest (class j)) n ≤ most.b
   pub frees : count (λ j. free (class j)) n ≤ most.e
-  pub forgers : count (λ j. forging (class j)) n ≤ most.l
+  pub forgers : count (λ j. forger (class j)) n ≤ most.l
 
--- what a receiver hears, by sender: `own` was sent by those who are honest, `same` by those who are uniform, `apart` by those who are free
+-- what a receiver hears, by sender: honest ones sent `own`, uniform ones the forged `same`, and free ones the forged
+-- `apart`
 module _ (n : ℕ) (most : Counts) (big : most.b + most.e + most.l < n) (class : ℕ → Class) (k : Behave n most class) (own same : ℕ → Held) where
   abbrev pub hears : (ℕ → Held) → ℕ → Held
   hears apart j = told (class j) (own j) (same j) (apart j)
@@ -26,7 +27,7 @@ module _ (n : ℕ) (most : Counts) (big : most.b + most.e + most.l < n) (class :
   pub honest_holder : (apart : ℕ → Held) (x : List ℕ) → most.l < holders (hears apart) n x → (j : ℕ) × (j < n) × (class j ≡ Honest) × (own j ≡ Some x)
   unfolding told holds
   honest_holder apart x many =
-      let w = count_witness (λ j. holds x (hears apart j)) (λ j. forging (class j)) n (omega (arith, k.forgers)) in
+      let w = count_witness (λ j. holds x (hears apart j)) (λ j. forger (class j)) n (omega (arith, k.forgers)) in
       let f : (class w.0 ≡ Honest) × (own w.0 ≡ Some x) = grind (arith, alike_tells) in
       (w.0, w.1, f.0, f.1)
 
@@ -50,12 +51,12 @@ module _ (n : ℕ) (most : Counts) (big : most.b + most.e + most.l < n) (class :
     honest_holders : n - most.b ≤ holders (hears apart) n w
     unfolding told holds
     honest_holders =
-        omega (arith, k.faults, count_all (λ j. faulty (class j)) (λ j. holds w (hears apart j)) n (λ j lt. let a = all j lt in grind (arith, alike_tells)))
+        omega (arith, k.faults, count_all (λ j. not_honest (class j)) (λ j. holds w (hears apart j)) n (λ j lt. let a = all j lt in grind (arith, alike_tells)))
 
     honest_others : others (hears apart) n w ≤ most.l
     unfolding told differs
     honest_others =
-        omega (arith, k.forgers, count_mono (λ j. differs w (hears apart j)) (λ j. forging (class j)) n (λ j lt d. let a = all j lt in grind (arith, alike_tells)))
+        omega (arith, k.forgers, count_mono (λ j. differs w (hears apart j)) (λ j. forger (class j)) n (λ j lt d. let a = all j lt in grind (arith, alike_tells)))
 
     -- a proposing round keeps it
     pub proposed_kept : proposed n most (hears apart) ≡ Some w

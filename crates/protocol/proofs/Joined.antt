@@ -1,4 +1,5 @@
--- What callers need: laws of lists of calls that are made one behind the other, and what a call that was accepted says of the states before and after it.
+-- What callers need: laws of two lists of calls that are made one after the other, and what it says of the states
+-- before and after a call that it was accepted.
 use Rattle.std.specs.Option.{option_or}
 use Rattle.std.proofs.Common.{◌≡◌, ℕ, zero, suc, ◌+◌, ◌<◌, ◌≤◌, true, List, [], ◌∷◌, ◌++◌, length, take, Some, None, Option, refl, sym, ap, ◌∙◌, arith}
 use Rattle.std.proofs.lemmas.List.{append_assoc, take-append-le}
@@ -74,17 +75,17 @@ answered_before (e ∷ a) b zero lt = refl
 answered_before (e ∷ a) b (suc i) lt = answered_before a b i (omega arith)
 
 -- and by those of the second
-pub answered_behind : (a b : Transcript) (i : ℕ) → answered (a ++ b) (length a + i) ≡ answered b i
-answered_behind [] b i = ap (answered b) (omega arith)
-answered_behind (e ∷ a) b i = let later : suc (length a) + i ≡ suc (length a + i) = omega arith in ap (answered (e ∷ (a ++ b))) later ∙ answered_behind a b i
+pub answered_later : (a b : Transcript) (i : ℕ) → answered (a ++ b) (length a + i) ≡ answered b i
+answered_later [] b i = ap (answered b) (omega arith)
+answered_later (e ∷ a) b i = let later : suc (length a) + i ≡ suc (length a + i) = omega arith in ap (answered (e ∷ (a ++ b))) later ∙ answered_later a b i
 
 -- how many rounds are closed before a call of the first
 pub closes_before : (a b : Transcript) (i : ℕ) → i ≤ length a → closes (take i (a ++ b)) ≡ closes (take i a)
 closes_before a b i le = ap closes (take-append-le i a b le)
 
 -- and before one of the second
-pub closes_behind : (a b : Transcript) (i : ℕ) → closes (take (length a + i) (a ++ b)) ≡ closes a + closes (take i b)
-closes_behind a b i = ap closes (take-append-add a b i) ∙ closes_joined a (take i b)
+pub closes_later : (a b : Transcript) (i : ℕ) → closes (take (length a + i) (a ++ b)) ≡ closes a + closes (take i b)
+closes_later a b i = ap closes (take-append-add a b i) ∙ closes_joined a (take i b)
 
 -- a call that is refused adds nothing to a transcript's opening, sets, closes and decisions
 pub record AddsNothing (c : Call) (a : Answer) : Type 0 where

@@ -1,11 +1,11 @@
--- A collecting round and the deciding round after it, for any number of a coordinator.
+-- A collecting round and the deciding round after it, whatever the coordinator's number.
 use Rattle.std.proofs.Common.{◌≡◌, ℕ, suc, ◌+◌, ◌<◌, true, List, Some, None, ◌⊎◌, refl, ap, arith}
 use Rattle.std.proofs.Math.Path.{fun_ext}
 use Rattle.std.specs.Option.{unwrap_or}
 use Rattle.models.specs.declared.classes.Class.{Class}
 use Rattle.models.specs.declared.classes.Class.TheVariants.{Honest}
 use Rattle.models.specs.declared.classes.Counts.{Counts}
-use Rattle.models.specs.Laws.{faulty, free, forging}
+use Rattle.models.specs.Laws.{not_honest, free, forger}
 use Rattle.values.specs.Cells.{Held, holds, holders}
 use Rattle.values.proofs.Alike.{alike_tells}
 use Rattle.protocol.specs.Rounds.{told, held_by, candidate, settled}
@@ -13,8 +13,9 @@ use Rattle.protocol.proofs.Counting.{count_cover, count_all, count_witness}
 use Rattle.protocol.proofs.Choosing.{holds_is, held_least, held_only}
 use Rattle.protocol.proofs.Hearing.{Behave, honest_holder, held_kept}
 
--- In the collecting round `v` was sent by those who are honest, `same1` by those who are uniform, and `apart1`, by receiver and sender, by those
--- who are free. In the deciding round it is `row`, `same2` and, for one receiver, `apart`. Whoever is honest in it noted down what it heard before.
+-- In the collecting round honest senders sent `v`, uniform ones the forged `same1`, and free ones the forged `apart1`,
+-- which goes by receiver and sender. In the deciding round that is `row`, `same2` and, for one receiver, `apart`; and
+-- whoever is honest in it noted down as its row what it heard in the collecting round.
 module _ (n : ℕ) (most : Counts) (big : most.b + most.e + most.l < n) (class1 class2 : ℕ → Class) (k1 : Behave n most class1) (k2 : Behave n most class2)
     (v same1 : ℕ → Held) (apart1 row same2 : ℕ → ℕ → Held)
     (noted : (j : ℕ) → j < n → class2 j ≡ Honest → (k : ℕ) → row j k ≡ told (class1 k) (v k) (same1 k) (apart1 j k)) where
@@ -24,23 +25,24 @@ module _ (n : ℕ) (most : Counts) (big : most.b + most.e + most.l < n) (class1 
   abbrev pub candidates : (ℕ → ℕ → Held) → ℕ → Held
   candidates apart = candidate n most (grid apart)
 
-  -- a candidate stands in the row of an honest sender
+  -- a candidate is a value in the row of an honest sender
   in_a_row : (apart : ℕ → ℕ → Held) (k : ℕ) (x : List ℕ) → candidates apart k ≡ Some x → (j : ℕ) × (j < n) × (class2 j ≡ Honest) × (row j k ≡ Some x)
   in_a_row apart k x e =
       honest_holder n most big class2 k2 (λ j. row j k) (λ j. same2 j k) (λ j. apart j k) x (held_least (suc most.l) (λ j. grid apart j k) n x e)
 
-  -- what more than l columns hold, each in the row of an honest sender, was held by an honest sender of the collecting round
+  -- a value that more than l columns hold, each in an honest sender's row, was sent by an honest one when collecting
   held_before : (cells : ℕ → Held) (x : List ℕ) → ((k : ℕ) → cells k ≡ Some x → (j : ℕ) × (j < n) × (class2 j ≡ Honest) × (row j k ≡ Some x))
       → most.l < holders cells n x → (k : ℕ) × (k < n) × (class1 k ≡ Honest) × (v k ≡ Some x)
   unfolding told
   held_before cells x each many =
-      let w = count_witness (λ k. holds x (cells k)) (λ k. forging (class1 k)) n (omega (arith, k1.forgers)) in
+      let w = count_witness (λ k. holds x (cells k)) (λ k. forger (class1 k)) n (omega (arith, k1.forgers)) in
       let s = each w.0 (holds_is x (cells w.0) w.2) in
       let r = noted s.0 s.1 s.2 w.0 in
       let f : (class1 w.0 ≡ Honest) × (v w.0 ≡ Some x) = grind arith in
       (w.0, w.1, f.0, f.1)
 
-  -- the coordinator c is honest in the deciding round, and before the collecting round all who were honest in it held one value at most
+  -- the coordinator c is honest in the deciding round; and before the collecting round, all who are honest in that
+  -- round held one value at most
   module _ (c : ℕ) (c_in : c < n) (c_honest : class2 c ≡ Honest)
       (one : (j k : ℕ) → j < n → k < n → class1 j ≡ Honest → class1 k ≡ Honest → (x y : List ℕ) → v j ≡ Some x → v k ≡ Some y → x ≡ y) where
     -- who is not free told two receivers the same
@@ -95,7 +97,7 @@ module _ (n : ℕ) (most : Counts) (big : most.b + most.e + most.l < n) (class1 
         (omega (
           arith,
           k1.faults,
-          count_all (λ k. faulty (class1 k)) (λ k. holds w (candidates apart k)) n (λ k lt. let f = candidate_kept apart k lt in grind (arith, alike_tells)),
+          count_all (λ k. not_honest (class1 k)) (λ k. holds w (candidates apart k)) n (λ k lt. let f = candidate_kept apart k lt in grind (arith, alike_tells)),
         ))
         (λ y many.
         let p = held_before (candidates apart) y (λ k s. in_a_row apart k y s) (omega arith) in

@@ -1,4 +1,4 @@
--- The published rounds are the round under their counts, and so are the closes of blocks with the counts of their models.
+-- The published rounds are the round under their counts, and so are closes of blocks with the counts of their models.
 use Rattle.std.proofs.Common.{◌≡◌, ℕ, ◌+◌, ◌-◌, ◌*◌, ◌<◌, ◌≤◌, ◌↔◌, min, List, Some, None, is_none, inl, inr, refl, sym, ap, ◌∙◌, subst, mod-eq_of_lt, arith}
 use Rattle.values.specs.Cells.{Held, holds}
 use Rattle.models.specs.declared.classes.Counts.{Counts}

@@ -1,4 +1,4 @@
--- A round that is seated is that of the calls that led to it: from the round back over the calls, to where the run was idle.
+-- A seated round is that of the calls that led to it: from the round back over the calls, to where the run was idle.
 use Rattle.std.specs.Option.{option_or}
 use Rattle.std.proofs.Common.{◌≡◌, ℕ, suc, ◌+◌, List, [], ◌∷◌, ◌++◌, length, Some, None, Option, slice_index, refl, sym, subst, arith}
 use Rattle.values.specs.declared.refusals.Refusal.{Refusal}
@@ -42,13 +42,15 @@ module _ (x : Setting) (m : Meaning) (b : Block) (s : Seating) where
     set : s.set ≡ slice_index all done
     last : b.last ≡ slice_index (from.last ∷ all) done
 
-  -- from a state to the round, by what the calls in between opened, seated and closed; a round that is seated before them has its set already
+  -- from a state to the round, by what the calls in between opened, seated and closed; a round that is seated before
+  -- them already has its set
   abbrev Leads : State → Option Opening → List ℕ → ℕ → Type 0
   Leads Idle o all done = (by : Opening) × (o ≡ Some by) × Reaches (opened m by.n by.t by.proposals by.initial) all done
   Leads (Waiting from) o all done = Reaches from all done
   Leads (Seated from now) o all done = Reaches from (now.set ∷ all) done
 
-  -- what led there from the state that a call leaves, with the call before it leads there from the state that the call found
+  -- what leads to the round from the state that a call leaves leads there, with the call put first, from the state
+  -- before it
   abbrev Behind : State → Call → State × Answer → Type 0
   Behind before c r = (o : Option Opening) (all : List ℕ) (done : ℕ)
       → Leads r.0 o all done → Leads before (option_or (opening_in c r.1) o) (sets_in c r.1 ++ all) (closes_in c r.1 + done)

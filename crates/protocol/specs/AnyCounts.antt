@@ -1,8 +1,10 @@
--- One round under any counts b, e and l, in the manner of the published rounds: so every model's rounds are. Algorithm 1 is this round under the counts
--- (2t, t, 2t), Algorithm 2 under (2t, 0, t) and Algorithm 3 under (t, 0, t). Assumes nothing.
+-- One round under any counts b, e and l, in the manner of the published rounds. Assumes nothing.
 --
--- As there, the relation says of one round r of a process that is not faulty in it what it sends, and how what it keeps after the round comes from what it
--- kept before it and from what it received; n is above b + e + l. Which value is taken where several qualify is left open.
+-- As there, the relation is about one round r of one process: what it sends, and how what it keeps after the round comes
+-- from what it kept before it and from what it received. Which value is taken where several qualify is left open. It does
+-- not ask that n is above b + e + l; what is promised with it does. That every close is such a round is `RunsAnyRound` in
+-- Compared.antt. That Algorithm 1 is this round under the counts (2t, t, 2t), Algorithm 2 under (2t, 0, t) and Algorithm 3
+-- under (t, 0, t) is `PublishedRounds` below.
 use Rattle.std.specs.Prelude.{◌≡◌, ℕ, suc, ◌+◌, ◌-◌, ◌*◌, ◌<◌, ◌≤◌, List, Some, None}
 use Rattle.values.specs.Counting.{count}
 use Rattle.values.specs.Cells.{Held, differs}
@@ -14,19 +16,22 @@ use Rattle.protocol.specs.Publications.{Algorithm, #, IfAny, IfAnyElse, Sending,
 abbrev pub #≢ : ℕ → List ℕ → (ℕ → Held) → ℕ
 #≢ n w X = count (λ j. differs w (X j)) n
 
--- a deciding round of phase s: the row is sent to all, and w is settled on
+-- a deciding round of phase s: the row is sent, in the manner of `p`, and w is settled on
 pub record Decides (n : ℕ) (most : Counts) (s : ℕ) (fallback : List ℕ) (p : Sending) (row : ℕ → Held) (sent received : ℕ → ℕ → Held) (w : List ℕ) : Type 0 where
   pub candidates : ℕ → Held
   pub sends : SendTuple p n row sent
-  -- the candidate of a column: the value of more than l senders, or none
+  -- the candidate of a column: a value received there from more than l processes, or none if there is no such value
   pub candidate : (k : ℕ) → k < n → IfAny (λ u. most.l < # n u (λ j. received j k)) (candidates k)
-  -- the value of more than l + e candidates; else that of more than l cells in the row received from the controller numbered as the phase; else the fallback
+  -- a value of more than l + e candidates; else one of more than l cells in the row received from the process numbered as
+  -- the phase; else the fallback
   pub settles : IfAnyElse (λ u. most.l + most.e < # n u candidates)
       (IfAnyElse (λ u. most.l < # n u (received s))
       (λ u. u ≡ fallback)) w
 
+-- what a round does not name stays as it was
 pub data AnyRound (n : ℕ) (most : Counts) (r : ℕ) (fallback : List ℕ) (p : Sending) (before : Memory) (sent received : ℕ → ℕ → Held) (after : Memory) : Type 0 where
-  -- proposing, round r = 3s: v is the value received at least n - b times while at most l are filled otherwise, or none
+  -- proposing, round r = 3s: v is a value received at least n - b times while at most l are filled otherwise, or ⊥ if there
+  -- is no such value
   Proposes : (s : ℕ) → s < n → r ≡ 3 * s
       → SendValue p before.v sent
       → IfAny (λ w. (n - most.b ≤ # n w (λ j. received j 0)) × (#≢ n w (λ j. received j 0) ≤ most.l)) after.v
@@ -47,7 +52,7 @@ pub data AnyRound (n : ℕ) (most : Counts) (r : ℕ) (fallback : List ℕ) (p :
       → (w : List ℕ) → Decides n most s fallback p before.row sent received w → after.v ≡ Some w
       → after.row ≡ before.row → after.decision ≡ after.v
       → AnyRound n most r fallback p before sent received after
-  -- maintaining, round r ≥ 3n: the decision is the value received at least n - b times, or none
+  -- maintaining, round r ≥ 3n: the decision is a value received at least n - b times, or ⊥ if there is no such value
   Maintains : 3 * n ≤ r
       → SendValue p before.decision sent → IfAny (λ w. n - most.b ≤ # n w (λ j. received j 0)) after.decision
       → after.v ≡ before.v → after.row ≡ before.row
@@ -60,7 +65,7 @@ process1 x = record { v = x.v; SV = x.row; dec = x.decision }
 abbrev pub process2 : Memory → Process2
 process2 x = record { v = x.v; Rec = x.row; dec = x.decision }
 
--- an algorithm is the round under these counts, neither more nor less, wherever n is above their sum
+-- wherever n is above the sum of these counts, the algorithm is the round under them, neither more nor less
 abbrev pub IsRoundUnder : {P : Type 0} → (counts : (t : ℕ) → Counts) → (Memory → P) → Algorithm P → Type 0
 IsRoundUnder counts process algorithm = (n t r : ℕ) (zero_value : List ℕ) (p : Sending) (before after : Memory) (sent received : ℕ → ℕ → Held)
     → (counts t).b + (counts t).e + (counts t).l < n

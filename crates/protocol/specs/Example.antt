@@ -1,5 +1,5 @@
--- Two lists of calls about which the law says something: one fault wanders through a block of four for the whole vote and tells two receivers
--- different things, and spares controller 0, among others, in the last two rounds of the phase that it coordinates. Assumes nothing.
+-- Two lists of calls about which the law says something. In each one fault wanders through a block of four for twelve
+-- rounds and tells two receivers different things; controller 0 is a clean coordinator. Assumes nothing.
 use Rattle.std.specs.Prelude.{◌≡◌, ℕ, ◌*◌, Bool, true, ◌&&◌, List, [], ◌∷◌, Some}
 use Rattle.models.specs.declared.standards.Standard.TheVariants.{Carried}
 use Rattle.models.specs.Laws.{Lawful}
@@ -12,11 +12,11 @@ use Rattle.protocol.specs.Votes.{ample, setting, full, only}
 abbrev pub opened_with : (proposals : List (List ℕ)) → Opening
 opened_with proposals = record { n = 4; t = 1; proposals = proposals; initial = only 3 }
 
--- two propose 500, and two 610
+-- two controllers propose 500, and two 610
 abbrev pub parted : Opening
 parted = opened_with ((500 ∷ []) ∷ (500 ∷ []) ∷ (610 ∷ []) ∷ (610 ∷ []) ∷ [])
 
--- all who are honest in round 0 propose 500, and controller 3, which is not, 610
+-- controllers 0 to 2, which are honest in round 0, propose 500, and controller 3, which is not, 610
 abbrev pub alike : Opening
 alike = opened_with ((500 ∷ []) ∷ (500 ∷ []) ∷ (500 ∷ []) ∷ (610 ∷ []) ∷ [])
 
@@ -24,7 +24,8 @@ alike = opened_with ((500 ∷ []) ∷ (500 ∷ []) ∷ (500 ∷ []) ∷ (610 ∷
 abbrev round : ℕ → List Call → List Call
 round i rest = Seat (only i) ∷ Close ∷ rest
 
--- twelve rounds, in the first of which controller 3, which is free then, tells controllers 0 and 1 different things; then 1 is asked for its decision
+-- twelve rounds; in round 0 controller 3 is free, and tells controllers 0 and 1 different things. Then controller 1 is
+-- asked for its decision.
 abbrev pub calls : Opening → List Call
 calls o =
     Open o.n o.t o.proposals o.initial
@@ -42,14 +43,15 @@ abbrev pub all_accepted : Transcript → Bool
 all_accepted [] = true
 all_accepted (e ∷ rest) = accepted e.answer && all_accepted rest
 
--- no call is refused; controller 0 is a clean coordinator; and 3n rounds are closed
+-- a whole vote: no call is refused, controller 0 is a clean coordinator, and 3n rounds are closed
 pub record WholeVote (o : Opening) : Type 0 where
   pub accepted : all_accepted (called o) ≡ true
   pub opens : opening (called o) ≡ Some o
   pub clean : Clean (called o) o 0
   pub closed : closes (called o) ≡ 3 * o.n
 
--- The model is lawful, and after such a vote a decision is filled; where all honest controllers proposed 500, it is 500.
+-- the model is lawful; after the one whole vote a decision is filled; and after the other, in which all who are honest
+-- in round 0 propose 500, it is 500
 pub record Example : Type 0 where
   pub lawful : Lawful (standard Carried)
   pub parted_vote : WholeVote parted

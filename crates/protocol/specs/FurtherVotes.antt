@@ -1,5 +1,5 @@
--- Further votes: each refusal, in the order of the checks; a phase, round by round; who is heard how; and the choice among several values that
--- qualify. Assumes nothing.
+-- Further votes: each refusal of a run, in the order of the checks; a phase, round by round; who is heard how; and the
+-- choice among several values that qualify. Assumes nothing.
 use Rattle.std.specs.Prelude.{ℕ, zero, suc, ◌+◌, List, [], ◌∷◌, ◌++◌, replicate}
 use Rattle.values.specs.Cells.{Held}
 use Rattle.models.specs.declared.standards.Standard.TheVariants.{Aware, Unaware, Carried, Fixed}
@@ -38,7 +38,8 @@ abbrev all_accepted : List Call → List (Meaning → Trial)
 all_accepted [] = []
 all_accepted (call ∷ rest) = call gives Accepted ∷ all_accepted rest
 
--- a phase of four controllers under carried, by rounds: controller 1 is in the initial set, 3 is seated in rounds 0 and 1, and 1 in round 2
+-- a phase of four controllers under carried, by rounds: the initial set is that of controller 1, and 3 is seated in
+-- rounds 0 and 1, and 1 in round 2
 abbrev phase_opened : List Call
 phase_opened = Open 4 1 ((500 ∷ []) ∷ (500 ∷ []) ∷ (500 ∷ []) ∷ (610 ∷ []) ∷ []) (only 1) ∷ []
 
@@ -66,7 +67,8 @@ row_of_0 = full 500 ∷ empty ∷ full 500 ∷ full 610 ∷ []
 abbrev row_of_others : List Held
 row_of_others = full 500 ∷ empty ∷ full 500 ∷ empty ∷ []
 
--- a block of four that proposes 500 and 610 by turns, so that its phase 0 finds nothing: controller 0, its coordinator, is seated in round 1
+-- a block of four that proposes 500 and 610 by turns, so that its phase 0 finds no candidate; its coordinator,
+-- controller 0, is seated in round 1
 abbrev split : List Call
 split = Open 4 1 ((500 ∷ []) ∷ (610 ∷ []) ∷ (500 ∷ []) ∷ (610 ∷ []) ∷ []) nobody ∷ Seat nobody ∷ Close ∷ Seat (only 0) ∷ Close ∷ Seat nobody ∷ []
 
@@ -80,7 +82,8 @@ further_votes =
     Calls ample (under (standard Aware) (
     Seat nobody gives RefusedWith 8 ∷ Forge 0 0 0 empty gives RefusedWith 8 ∷ Close gives RefusedWith 8 ∷ Decision 0 gives RefusedWith 8 ∷ []
     ))
-    -- open: the block's size, t, the counts, the store, the proposals and the initial set. Refused calls break later checks as well.
+    -- open: the block's size, t, the counts, the store, the proposals and the initial set; the refused calls break
+    -- later checks as well
     ∷ Calls 317 (under (standard Unaware) (
     Open 0 0 ((500 ∷ []) ∷ []) (only 9) gives RefusedWith 1
     ∷ Open 17 17 [] nobody gives RefusedWith 1
@@ -99,7 +102,8 @@ further_votes =
     ∷ Open 0 0 [] (only 6) gives RefusedWith 8
     ∷ []
     ))
-    -- the largest block, in a store that is one cell too small, and in one that is not; the largest t that unaware bears in it; and full sets
+    -- the largest block, in a store that is one cell too small, and in one that is not; the largest t that unaware
+    -- bears in it; and sets of so many
     ∷ Calls 4687 (under (standard Unaware) (open_500 16 3 gives RefusedWith 4 ∷ []))
     ∷ Calls 4688 (under (standard Unaware) (
     open_500 17 1 gives RefusedWith 1
@@ -123,7 +127,8 @@ further_votes =
     ))
     -- seat, after 1,000 rounds
     ∷ Calls ample (under (standard Fixed) (open_500 1 0 gives Accepted ∷ quiet_rounds 1000 (Seat (only 6) gives RefusedWith 11 ∷ [])))
-    -- forge: the place, then the sender; controller 0 is honest, 1 is uniform and was seated before, 2 is free and is seated now
+    -- forge: the place, then the sender; controller 0 is honest; 1, of the set before, is uniform; and 2, of the set
+    -- after, is free
     ∷ Calls ample (under (standard Unaware) (
     open_500_from 6 1 (only 1) gives Accepted
     ∷ Seat (only 2) gives Accepted
@@ -137,7 +142,8 @@ further_votes =
     ∷ Forge 2 5 0 empty gives Accepted
     ∷ []
     ))
-    -- forge in a deciding round, whose messages have a column for each controller; 1 is silent and was seated before, 2 is free
+    -- forge in a deciding round, whose messages have a column for each controller; 1, of the set before, is silent, and
+    -- 2 is free
     ∷ Calls ample (under (standard Aware) (
     open_500 5 1 gives Accepted
     ∷ Seat nobody gives Accepted ∷ Close gives Accepted
@@ -148,7 +154,7 @@ further_votes =
     ∷ Forge 1 0 0 (full 610) gives RefusedWith 10
     ∷ []
     ))
-    -- decision: the controller's number, then whether it was seated in the last closed round, or is in the initial set
+    -- decision: whether there is such a controller, then whether the last set (at first the initial one) holds it
     ∷ Calls ample (under (standard Aware) (
     open_500_from 5 1 (only 4) gives Accepted
     ∷ Decision 5 gives RefusedWith 9
@@ -167,8 +173,8 @@ further_votes =
     ∷ carried_leaves phase_proposed (full 500 ∷ empty ∷ full 500 ∷ empty ∷ []) (replicate 4 no_row)
     ∷ carried_leaves phase_collected (full 500 ∷ empty ∷ full 500 ∷ empty ∷ []) (row_of_0 ∷ row_of_others ∷ row_of_others ∷ no_row ∷ [])
     ∷ carried_leaves phase_decided (full 500 ∷ empty ∷ full 500 ∷ full 500 ∷ []) (row_of_0 ∷ no_row ∷ row_of_others ∷ no_row ∷ [])
-    -- a collecting round in which 1 is uniform, and is heard alike by all, and 2 is free; an empty cell takes back a filled one; and what is
-    -- refused in between changes nothing
+    -- a collecting round in which 1 is uniform, and is heard alike by all, and 2 is free; an empty cell takes back a
+    -- filled one; and what is refused in between changes nothing
     ∷ Leaves (under (standard Unaware) (
     open_500 6 1 gives Accepted
     ∷ Seat (only 1) gives Accepted ∷ Close gives Accepted
@@ -192,20 +198,21 @@ further_votes =
     ∷ row_with (full 610) empty
     ∷ []
     )
-    -- a coordinator that is free tells controller 1 a row, column by column, and the others nothing: these go by the fallback
+    -- a coordinator that is free tells controller 1 a row, column by column, and the others nothing, so that these
+    -- settle on the fallback
     ∷ carried_leaves (split ++ (Forge 0 1 0 (full 610) ∷ Forge 0 1 1 (full 610) ∷ Forge 0 1 2 (full 500) ∷ Close ∷ []))
     (full 400 ∷ full 610 ∷ full 400 ∷ full 400 ∷ []) (replicate 4 no_row)
     -- with stamps it is uniform, and tells all the row forged for receiver 0
     ∷ Leaves (under (stamped (standard Carried)) (all_accepted (split ++ (Forge 0 0 0 (full 500) ∷ Forge 0 0 1 (full 610) ∷ Forge 0 0 2 (full 610) ∷ Close ∷ []))))
     (replicate 4 (full 610)) (replicate 4 no_row)
-    -- two models: moves and classes go by the one that seat names, and the counts by the one that open named. Three cells are wanted, as carried
-    -- has it; aware would want two. And 2 is silent, as aware has it; under carried it would be free.
+    -- two models: moves and classes go by the one that seat names, and the counts by the one that open named. Three
+    -- cells are wanted, by carried; aware would want two. And 2 is silent, by aware; under carried it would be free.
     ∷ Leaves (
     under (standard Carried) (Open 4 1 ((500 ∷ []) ∷ (500 ∷ []) ∷ (610 ∷ []) ∷ (610 ∷ []) ∷ []) (only 2) gives Accepted ∷ [])
     ++ under (standard Fixed) (Seat (only 1) gives RefusedWith 7 ∷ [])
     ++ under (standard Aware) (Seat nobody gives Accepted ∷ Forge 2 0 0 (full 500) gives RefusedWith 10 ∷ Close gives Accepted ∷ [])
     ) (replicate 4 empty) (replicate 4 no_row)
-    -- two values in three cells each: the one in the lowest-numbered cell counts, in a column and in the coordinator's row
+    -- two values in three cells each: that of the lowest-numbered cell counts, in a column and in the coordinator's row
     ∷ Decides (standard Unaware) 6 1 5 (
     (full 610 ∷ []) ∷ (full 610 ∷ []) ∷ (full 500 ∷ []) ∷ (full 500 ∷ []) ∷ (full 610 ∷ [])
     ∷ (full 500 ∷ full 610 ∷ full 610 ∷ full 500 ∷ full 500 ∷ full 610 ∷ []) ∷ []

@@ -1,4 +1,5 @@
--- The run as a machine over plain values: turns, calls, refusals in their order, the state after a call and its answer. Assumes nothing.
+-- The run as a machine over plain values: turns, calls, refusals in their order, the state after a call and its answer.
+-- Assumes nothing.
 use Rattle.std.specs.Prelude.{
   ℕ,
   suc,
@@ -53,7 +54,7 @@ use Rattle.protocol.specs.Rounds.{Terms, Memory, closing}
 
 infixr 10 ◌then◌
 infix 20 ◌when◌
--- what a run has before any call: how many cells were handed over, and the fallback of its value kind
+-- what a run has before any call: a store of so many cells, and the fallback of its value kind
 pub record Setting : Type 0 where
   pub cells : ℕ
   pub fallback : List ℕ
@@ -78,7 +79,7 @@ pub record Seating : Type 0 where
   -- by sender, receiver and column
   pub forged : ℕ → ℕ → ℕ → Held
 
--- the turn that a run stands at, with what it holds then
+-- the turn that a run stands at, with what belongs to it then
 pub data State : Type 0 where
   Idle : State
   Waiting : Block → State
@@ -96,10 +97,11 @@ pub data Answer : Type 0 where
   Decided : Held → Answer
   Refused : Refusal → Answer
 
--- the refusal that a test gives, and the first of two
+-- a refusal, if the test of it holds
 abbrev pub ◌when◌ : Refusal → Bool → Option Refusal
 why when test = if test then Some why else None
 
+-- the first of two refusals
 abbrev pub ◌then◌ : Option Refusal → Option Refusal → Option Refusal
 a then b = option_or a b
 
@@ -107,7 +109,7 @@ a then b = option_or a b
 abbrev pub needed : ℕ → ℕ
 needed n = n * n * n + 2 * n * n + 5 * n
 
--- whether a set has a member not below n (those are the bits from n on), or more than t members
+-- whether a set does not fit the block: it has a member whose number is n or above, or more than t members
 abbrev pub misfits : (n t set : ℕ) → Bool
 misfits n t set = nat_lt 0 (set / 2 ^ n) || nat_lt t (members set)
 
@@ -118,7 +120,7 @@ unforgeable Silent receiver = true
 unforgeable Uniform receiver = nat_lt 0 receiver
 unforgeable Free receiver = false
 
--- refusals in the order of their checks; that of a wrong turn goes before all of them
+-- why a call is refused at its turn: the first of these. That a call is out of turn goes before all of them, in `step`.
 abbrev pub open_refusal : Setting → Meaning → (n t : ℕ) → List (List ℕ) → (initial : ℕ) → Option Refusal
 open_refusal x m n t proposals initial =
     BlockSize when (n == 0 || nat_lt MOST_CONTROLLERS n)
@@ -144,12 +146,13 @@ decision_refusal b controller =
     NoSuchPlace when nat_le b.n controller
     then WasSeated when has b.last controller
 
--- the state after each accepted call
+-- What each accepted call leaves.
 
--- what the controllers keep at first: each v is that controller's proposal, but is empty for members of the initial set; all else is empty
+-- what a controller keeps when its block is opened: v, its proposal unless it is in the initial set, and nothing else
 abbrev pub started : List (List ℕ) → (initial : ℕ) → (controller : ℕ) → Memory
 started proposals initial i = record { v = if has initial i then None else slice_index_or (map Some proposals) i None; row = λ _. None; decision = None }
 
+-- an open: a block whose round 0 comes next
 abbrev pub opened : Meaning → (n t : ℕ) → List (List ℕ) → (initial : ℕ) → Block
 opened m n t proposals initial = record {
   n = n;
@@ -160,7 +163,7 @@ opened m n t proposals initial = record {
   memory = started proposals initial;
 }
 
--- the classes are fixed, by the model named at seat, and nothing is forged yet
+-- a seat: the classes are those of the model named at seat, for the move from the last set to this one
 abbrev pub seating : Meaning → Block → (set : ℕ) → Seating
 seating m b set = record {
   set = set;
@@ -168,7 +171,7 @@ seating m b set = record {
   forged = λ _ _ _. None;
 }
 
--- a later cell at the same place replaces an earlier one
+-- a forge: the cell is put at its place, instead of any earlier one there
 abbrev pub forging : Seating → (sender receiver column : ℕ) → Held → Seating
 forging s sender receiver column cell = record {
   set = s.set;
@@ -179,6 +182,7 @@ forging s sender receiver column cell = record {
 abbrev pub terms_of : Setting → Block → Terms
 terms_of x b = record { n = b.n; counts = b.counts; fallback = x.fallback }
 
+-- a close: the round is computed, its set becomes the last set, and the next round comes
 abbrev pub closed : Setting → Block → Seating → Block
 closed x b s = record {
   n = b.n;
@@ -194,7 +198,7 @@ abbrev pub unless : Option Refusal → (before after : State) → Answer → Sta
 unless None before after answer = (after, answer)
 unless (Some why) before after answer = (before, Refused why)
 
--- what a call does, by the turn that the run stands at; the model is the one that open or seat names
+-- what a call does and is answered, by the turn that the run stands at; the model is the one that open or seat names
 abbrev pub step : Setting → Meaning → State → Call → State × Answer
 step x m Idle (Open n t proposals initial) = unless (open_refusal x m n t proposals initial) Idle (Waiting (opened m n t proposals initial)) Done
 step x m Idle (Seat set) = (Idle, Refused OutOfTurn)

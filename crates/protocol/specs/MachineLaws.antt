@@ -15,8 +15,9 @@ RefusedChangesNothing = (x : Setting) (m : Meaning) (s : State) (call : Call) (w
 abbrev pub SeatedAreEmptied : Type 0
 SeatedAreEmptied = (x : Setting) (b : Block) (s : Seating) (i : ℕ) → i < b.n → has s.set i ≡ true → (closed x b s).memory i ≡ blank
 
--- A round that is seated, by the calls that led to it and their answers: its n and t are those of the accepted open, the round's number tells how many rounds
--- are closed, one seat more was accepted, its set is that of the seat with this number, and the last set that of the seat before, or the initial set in round 0.
+-- A round that is seated, by the calls that led to it and their answers. Its n and t are those of the accepted open.
+-- Its number tells how many rounds are closed, and one seat more was accepted. Its set is that of the seat with this
+-- number, and the last set that of the seat before; in round 0 that is the initial set.
 pub record IsRoundOf (log : Transcript) (b : Block) (s : Seating) : Type 0 where
   pub by : Opening
   pub opens : opening log ≡ Some by

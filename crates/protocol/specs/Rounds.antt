@@ -1,4 +1,5 @@
--- What a controller hears in a round, and what it makes of it. A cell is empty (None) or holds the numbers of a value. Assumes nothing.
+-- What a controller hears in a round, and what it makes of it. A cell is empty (None) or holds the numbers of a value.
+-- Assumes nothing.
 use Rattle.std.specs.Prelude.{ℕ, zero, suc, ◌+◌, ◌-◌, ◌*◌, ◌/◌, Bool, if◌then◌else◌, not, ◌&&◌, List, Some, None, Option, ◌==◌, nat_lt}
 use Rattle.std.specs.Option.{unwrap_or}
 use Rattle.values.specs.Cells.{Held, winning}
@@ -9,36 +10,37 @@ use Rattle.protocol.specs.declared.stages.Stage.{Stage}
 use Rattle.protocol.specs.declared.stages.Stage.TheVariants.{Proposing, Collecting, Deciding, Maintaining}
 use Rattle.protocol.specs.Stages.{stage_of, coordinator_of}
 
--- what is fixed for all rounds of a run: the number n of controllers, the counts b, e and l, and the fallback
+-- what is fixed for all rounds of a run: how many controllers there are, the counts b, e and l, and the fallback
 pub record Terms : Type 0 where
   pub n : ℕ
   pub counts : Counts
   pub fallback : List ℕ
 
--- what a controller keeps from round to round
+-- what a controller keeps from round to round. Its row is the n cells that it noted in a collecting round; a value's
+-- row (`Kind::Row`), how one value lies in a cell, is another thing.
 pub record Memory : Type 0 where
   pub v : Held
   pub row : ℕ → Held
   pub decision : Held
 
--- nothing: so a seated controller is left
+-- the memory that a seated controller is left with: all cells empty
 abbrev pub blank : Memory
 blank = record { v = None; row = λ _. None; decision = None }
 
--- a message of column 0 alone
+-- a message of one cell, in column 0
 abbrev pub single : Held → ℕ → Held
 single cell zero = cell
 single cell (suc k) = None
 
--- what an honest sender sends, by column: v in proposing and collecting, its row in deciding, its decision in maintaining
+-- an honest sender's message, by column: its row if deciding; else one cell, its decision if maintaining and v if not
 abbrev pub sends : Stage → Memory → ℕ → Held
 sends Proposing own = single own.v
 sends Collecting own = single own.v
 sends Deciding own = own.row
 sends Maintaining own = single own.decision
 
--- what a sender of a class tells: what it sends if it is honest, nothing if it is silent, the cell forged for receiver 0 if it is
--- uniform, and the cell forged for this receiver if it is free
+-- what a receiver is told by a sender of a class: by an honest one what it sends, by a silent one nothing, by a uniform
+-- one the cell forged for receiver 0, and by a free one the cell forged for this receiver
 unfoldable pub told : Class → (sent forged_for_0 forged_for_this : Held) → Held
 told Honest sent forged_for_0 forged_for_this = sent
 told Silent sent forged_for_0 forged_for_this = None
@@ -54,35 +56,38 @@ abbrev pub at_place : (ℕ → Held) → Option ℕ → Held
 at_place cells None = None
 at_place cells (Some i) = cells i
 
--- the value that at least `least` of n cells hold while at most `most` are filled otherwise; of several, the one in the lowest-numbered cell
+-- the value that at least `least` of n cells hold while at most `most` are filled otherwise; of several such values,
+-- the one in the lowest-numbered cell
 unfoldable pub chosen : (least most : ℕ) → (ℕ → Held) → ℕ → Held
 chosen least most cells n = at_place cells (winning least most cells n)
 
--- the value that at least `least` of n cells hold: that at most n are filled otherwise is no condition
+-- the value that at least `least` of n cells hold; that at most n cells are filled otherwise is no condition
 abbrev pub held_by : (least : ℕ) → (ℕ → Held) → ℕ → Held
 held_by least cells n = chosen least n cells n
 
--- proposing: the value held by at least n - b cells while at most l are filled otherwise, or none
+-- proposing: n - b cells or more have to hold the value, and no more than l to be filled otherwise
 abbrev pub proposed : ℕ → Counts → (ℕ → Held) → Held
 proposed n counts cells = chosen (n - counts.b) counts.l cells n
 
--- maintaining: the value held by at least n - b cells, or none
+-- maintaining: n - b cells or more have to hold the value
 abbrev pub maintained : ℕ → Counts → (ℕ → Held) → Held
 maintained n counts cells = held_by (n - counts.b) cells n
 
--- deciding: the candidate of column k is the value held by more than l senders there, or none
+-- deciding: a value becomes the candidate of column k if more than l senders hold it there; a column may have none
 abbrev pub candidate : ℕ → Counts → (ℕ → ℕ → Held) → ℕ → Held
 candidate n counts heard k = held_by (suc counts.l) (λ j. heard j k) n
 
--- the value of more than l + e candidates; failing that, of more than l cells in the coordinator's row; failing that, the fallback
+-- the value that settles a deciding round: more than l + e candidates have it; where none has so many, more than l
+-- cells of the coordinator's row, as it was heard; and where none has those either, it is the fallback
 abbrev pub settled : ℕ → Counts → (fallback : List ℕ) (candidates coordinator_row : ℕ → Held) → List ℕ
 settled n counts fallback candidates coordinator_row =
     unwrap_or (held_by (suc (counts.l + counts.e)) candidates n) (unwrap_or (held_by (suc counts.l) coordinator_row n) fallback)
 
+-- the value that a controller settles on, by what it hears from each sender in each column
 abbrev pub decided : Terms → (phase : ℕ) → (ℕ → ℕ → Held) → List ℕ
 decided terms phase heard = settled terms.n terms.counts terms.fallback (candidate terms.n terms.counts heard) (heard (coordinator_of phase))
 
--- the close of round 3n - 1 copies v into the decision, and every earlier close leaves the decision empty
+-- what a deciding round makes the decision: v in the last one, which is round 3n - 1, and empty in every other one
 abbrev pub copied : (n r : ℕ) → Held → Held
 copied n r v = if suc r == 3 * n then v else None
 
@@ -97,7 +102,7 @@ make Maintaining terms r own heard = record { v = own.v; row = own.row; decision
 abbrev pub sent_in : Terms → (r : ℕ) → (ℕ → Memory) → ℕ → ℕ → Held
 sent_in terms r kept j = sends (stage_of terms.n r) (kept j)
 
--- the close of round r: every unseated controller computes from what was sent, and a seated one is left with all its cells empty
+-- what the close of round r leaves a controller with: if unseated, what it makes of what was sent; and else nothing
 abbrev pub closing : Terms → (r : ℕ) (seated : ℕ → Bool) (class : ℕ → Class) (forged : ℕ → ℕ → ℕ → Held) → (ℕ → Memory) → ℕ → Memory
 closing terms r seated class forged kept i =
     if nat_lt i terms.n && not (seated i) then make (stage_of terms.n r) terms r (kept i) (heard class (sent_in terms r kept) forged i) else blank

@@ -53,8 +53,8 @@ pub record Opening : Type 0 where
   pub proposals : List (List ℕ)
   pub initial : ℕ
 
--- What one call adds, by the call first: an opening, a set, a close, or the cell that a decision answered. The answer is asked only where the
--- call can add something, so whatever other calls answer adds nothing.
+-- What one call adds: an opening, a set, a close, or the cell that a decision answered. The call is looked at first,
+-- and its answer only where such a call can add something.
 abbrev pub opening_in : Call → Answer → Option Opening
 opening_in (Open n t proposals initial) answer = if accepted answer then Some (record { n = n; t = t; proposals = proposals; initial = initial }) else None
 opening_in (Seat set) answer = None
@@ -93,12 +93,12 @@ abbrev pub opening : Transcript → Option Opening
 opening [] = None
 opening (e ∷ rest) = option_or (opening_in e.call e.answer) (opening rest)
 
--- the sets of the accepted seats, those of rounds 0, 1, 2 and so on
+-- the sets of the accepted seats, which are those of rounds 0, 1, 2 and so on
 abbrev pub sets : Transcript → List ℕ
 sets [] = []
 sets (e ∷ rest) = sets_in e.call e.answer ++ sets rest
 
--- how many rounds were closed
+-- how many closes were accepted, and so how many rounds are closed
 abbrev pub closes : Transcript → ℕ
 closes [] = 0
 closes (e ∷ rest) = closes_in e.call e.answer + closes rest
@@ -109,14 +109,15 @@ answered [] i = None
 answered (e ∷ rest) zero = cell_in e.call e.answer
 answered (e ∷ rest) (suc i) = answered rest i
 
--- the set of round r; nobody is in the set of a round never reached
+-- the set of round r; where round r was never reached, the empty set
 abbrev pub set_of : Transcript → ℕ → ℕ
 set_of log r = slice_index (sets log) r
 
+-- controller i is unseated in round r
 abbrev pub Unseated : Transcript → (r i : ℕ) → Type 0
 Unseated log r i = has (set_of log r) i ≡ false
 
--- controller c is unseated in rounds 3c + 1 and 3c + 2
+-- a clean coordinator: it is unseated in the collecting and the deciding round of the phase that it coordinates
 pub record Clean (log : Transcript) (o : Opening) (c : ℕ) : Type 0 where
   pub controller : c < o.n
   pub collecting : Unseated log (3 * c + 1) c
@@ -127,10 +128,11 @@ pub record HonestAtStart (m : Meaning) (log : Transcript) (o : Opening) (i : ℕ
   pub reached : 0 < length (sets log)
   pub honest : m.class o.initial (set_of log 0) o.t i ≡ Honest
 
+-- the accepted open took w as the proposal of controller i
 abbrev pub Proposed : Opening → (i : ℕ) → List ℕ → Type 0
 Proposed o i w = slice_index_or (map Some o.proposals) i None ≡ Some w
 
--- all controllers that the model calls honest in round 0 proposed w
+-- whoever is honest in round 0, by the model, proposed w
 abbrev pub HonestProposed : Meaning → Transcript → Opening → List ℕ → Type 0
 HonestProposed m log o w = (i : ℕ) → i < o.n → HonestAtStart m log o i → Proposed o i w
 
@@ -139,15 +141,16 @@ Filled cell = (x : List ℕ) × (cell ≡ Some x)
 
 -- the law of a transcript with this opening
 pub record Agrees (m : Meaning) (log : Transcript) (o : Opening) : Type 0 where
-  -- with a clean coordinator all filled decisions are equal, whichever controllers were asked and whenever
+  -- with a clean coordinator any two filled decisions are equal, whoever was asked for them and when
   pub equal : (c : ℕ) → Clean log o c → (i j : ℕ) (x y : List ℕ) → answered log i ≡ Some (Some x) → answered log j ≡ Some (Some y) → x ≡ y
-  -- with one, every decision answered after the close of round 3n - 1 is filled
+  -- with a clean coordinator a decision is filled if it is answered once round 3n - 1 is closed
   pub filled : (c : ℕ) → Clean log o c → (i : ℕ) (cell : Held) → answered log i ≡ Some cell → 3 * o.n ≤ closes (take i log) → Filled cell
-  -- every decision answered before it is empty; this needs no clean coordinator
+  -- a decision that is answered before round 3n - 1 is closed is empty, with or without a clean coordinator
   pub early : (i : ℕ) (cell : Held) → answered log i ≡ Some cell → closes (take i log) < 3 * o.n → cell ≡ None
-  -- if all who are honest in round 0 proposed w, every filled decision is w; this needs no clean coordinator
+  -- where whoever is honest in round 0 proposed w, a filled decision is w, with or without a clean coordinator
   pub valid : (w : List ℕ) → HonestProposed m log o w → (i : ℕ) (x : List ℕ) → answered log i ≡ Some (Some x) → x ≡ w
 
+-- the law of a transcript
 pub record Law (m : Meaning) (log : Transcript) : Type 0 where
   pub opened : (o : Opening) → opening log ≡ Some o → Agrees m log o
   -- where no open was accepted, no decision was
@@ -163,6 +166,6 @@ abbrev pub state_after : Setting → Meaning → State → List Call → State
 state_after x m s [] = s
 state_after x m s (c ∷ calls) = state_after x m (step x m s c).0 calls
 
--- the theorem: whatever is called, what the machine answers obeys the law, under every lawful model
+-- the theorem: whatever is called on a new run, with one lawful model named throughout, the transcript obeys the law
 abbrev pub Agreement : Type 0
 Agreement = (x : Setting) (m : Meaning) → Lawful m → (calls : List Call) → Law m (transcript x m Idle calls)

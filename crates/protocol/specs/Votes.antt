@@ -44,11 +44,12 @@ under m (trial ∷ rest) = trial m ∷ under m rest
 pub data Vote : Type 0 where
   -- calls on a new run with so many cells have these outcomes
   Calls : (cells : ℕ) → List Trial → Vote
-  -- calls on a new run have these outcomes, and after them every controller keeps such a v and such a row
+  -- calls on a new run have these outcomes, and then each controller keeps this v and this row of its own
   Leaves : List Trial → (v : List Held) → (rows : List (List Held)) → Vote
   -- what a controller hears in a proposing round, and the v that it makes of it
   Proposes : Meaning → (n t : ℕ) (heard : List Held) (v : Held) → Vote
-  -- the rows that a controller hears in the deciding round of a phase, the candidates, by column, and the v that it makes of them
+  -- the controllers' rows that a controller hears in the deciding round of a phase, the candidates of the columns, and
+  -- the v that it makes of them
   Decides : Meaning → (n t phase : ℕ) (rows : List (List Held)) (candidates : List Held) (v : Held) → Vote
   -- what a controller hears in a maintaining round, and the decision that it makes of it
   Maintains : Meaning → (n t : ℕ) (heard : List Held) (decision : Held) → Vote
@@ -148,7 +149,7 @@ alone s = Calls ample (under (standard s) (
     ∷ []
     ))
 
--- the cells of a row of six, the first of which hold 500
+-- a row of six cells, of which the first hold 500
 abbrev of_six : List Held → List Held
 of_six held = held ++ replicate (6 - length held) empty
 
@@ -167,15 +168,16 @@ votes =
     Calls ample (under (standard Unaware) (open_500 5 1 gives RefusedWith 3 ∷ open_500 6 1 gives Accepted ∷ []))
     ∷ Calls ample (under (stamped (standard Aware)) (open_500 3 1 gives RefusedWith 3 ∷ open_500 4 1 gives Accepted ∷ []))
     ∷ Calls ample (under (stamped (standard Carried)) (open_500 2 1 gives RefusedWith 3 ∷ open_500 3 1 gives Accepted ∷ []))
-    -- proposing, with at least three holders wanted and at most one cell filled otherwise
+    -- proposing: a value wants three holders at least, and one cell filled otherwise at most
     ∷ Proposes (standard Aware) 5 1 (full 500 ∷ full 500 ∷ full 500 ∷ empty ∷ full 610 ∷ []) (full 500)
     ∷ Proposes (standard Aware) 5 1 (full 500 ∷ full 500 ∷ full 500 ∷ full 610 ∷ full 610 ∷ []) empty
     ∷ Proposes (standard Aware) 5 1 (full 500 ∷ full 500 ∷ empty ∷ empty ∷ empty ∷ []) empty
-    -- deciding, with at least three senders wanted for a candidate, four candidates for a value, and three cells in the coordinator's row
+    -- deciding: a candidate wants three senders at least, and a value four candidates, or else three cells of the
+    -- coordinator's row
     ∷ Decides (standard Unaware) 6 1 0 (two ∷ four ∷ four ∷ four ∷ four ∷ four ∷ []) (of_six four) (full 500)
     ∷ Decides (standard Unaware) 6 1 2 (four ∷ two ∷ three ∷ two ∷ two ∷ four ∷ []) (of_six three) (full 500)
     ∷ Decides (standard Unaware) 6 1 2 (four ∷ four ∷ two ∷ three ∷ three ∷ [] ∷ []) (of_six three) (full 400)
-    -- maintaining, with at least four holders wanted
+    -- maintaining: a value wants four holders at least
     ∷ Maintains (standard Unaware) 6 1 (full 500 ∷ full 500 ∷ full 500 ∷ full 500 ∷ full 610 ∷ full 610 ∷ []) (full 500)
     ∷ Maintains (standard Unaware) 6 1 (full 500 ∷ full 500 ∷ full 500 ∷ full 610 ∷ full 610 ∷ full 610 ∷ []) empty
     -- a block of one, under each model

@@ -1,5 +1,5 @@
-//! The rules of the vote as definitions, and what is proved of them: that rounds are the published ones, that the
-//! worked votes come out as written, and that all decisions agree.
+//! The rules of the vote as definitions, and what is proved of them: that under the counts of three models the rounds
+//! are published ones, that the worked votes come out as written, and that decisions obey the law of transcripts.
 #![tactic(auto)]
 
 mod stages;

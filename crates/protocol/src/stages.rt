@@ -1,7 +1,7 @@
 ghost use Rattle.std.specs.Prelude.{◌≡◌};
 ghost use Rattle.protocol.specs.Stages.{stage_of, columns_of, coordinator_of};
 
-/// A run has no more rounds.
+/// How many rounds a run has at most.
 pub const MOST_ROUNDS: usize = 1000;
 
 /// What the controllers of a block do in a round.
@@ -9,20 +9,20 @@ pub const MOST_ROUNDS: usize = 1000;
 pub enum Stage {
     /// They vote on their values.
     Proposing,
-    /// They note down what the others hold.
+    /// Each notes down the values that it hears: its row, of n cells.
     Collecting,
-    /// They tell each other what they noted, and settle on a value.
+    /// They tell each other their rows, and settle on a value.
     Deciding,
     /// They keep the decision, and give it back to those who lost it.
     Maintaining,
 }
 
 impl Stage {
-    /// The stage of a round of a block of n controllers.
+    /// The stage of a round of a block of n controllers; rounds are numbered from 0 on.
     pub fn of(n: usize, round: usize) -> Stage
         ensures { result ≡ stage_of n round }
     {
-        // that is 3 * n <= round, but 3 * n may be too large for a usize
+        // 3 * n <= round, but 3 * n may be too large for a usize
         if round / 3 >= n {
             return Stage::Maintaining;
         }
@@ -33,7 +33,7 @@ impl Stage {
         }
     }
 
-    /// How many columns a message has at this stage.
+    /// How many columns a message has at this stage in a block of n: n in a deciding round, else 1.
     pub fn columns(self, n: usize) -> usize
         ensures { result ≡ columns_of self n }
     {
@@ -44,7 +44,9 @@ impl Stage {
     }
 }
 
-/// The number of the controller that coordinates a phase: its row counts where a deciding round has too few candidates.
+/// The controller that coordinates a phase: the one with the phase's number.
+///
+/// What is heard of its row counts where the candidates of the deciding round settle nothing.
 pub fn coordinator(phase: usize) -> usize
     ensures { result ≡ coordinator_of phase }
 {

@@ -1,4 +1,4 @@
--- Calls on a run, one behind the other: what a caller knows of the run and of the answers so far.
+-- Calls on a run, one after another: what a caller knows of the run and of the answers so far.
 use Rattle.std.proofs.Common.{◌≡◌, ◌<◌, ℕ, zero, suc, arith, refl, sym, ap, subst, ◌∙◌, List, [], ◌∷◌, ◌++◌, map, take, drop, Some, inl, inr, ◌⊎◌}
 use Rattle.std.specs.Prelude.{length, ⊤, Result, Ok, Err, IfErr}
 use Rattle.values.specs.declared.refusals.Refusal.{Refusal}
@@ -22,7 +22,7 @@ use Rattle.run.specs.Standing.{entry, Stands, Continues}
 use Rattle.run.proofs.Sizes.{step_size, size_is}
 
 module _ {V R : Type 0} {kind : Ghosts V R} where
-  -- what is left as it was, of one call and of calls one behind the other
+  -- what is left as it was, by one call and by calls one after another
   pub keeps_all : (run : Run V R kind) → Keeps run run
   keeps_all run = record { size = inr refl; past = refl; setting_stays = refl; named = refl {a = run.cells.ghost_name} }
 
@@ -55,9 +55,9 @@ module _ {V R : Type 0} {kind : Ghosts V R} where
   refused_unaltered (Ok x) a b p = tt
   refused_unaltered (Err why) a b p = p.refused why refl
 
-  -- as many cells as were handed over
-  pub same_room : (a b : Run V R kind) → Keeps a b → length b.cells.now ≡ length a.cells.now
-  same_room a b p = ap (λ (x : Setting). x.cells) p.setting_stays
+  -- the store has as many cells as before
+  pub same_cells : (a b : Run V R kind) → Keeps a b → length b.cells.now ≡ length a.cells.now
+  same_cells a b p = ap (λ (x : Setting). x.cells) p.setting_stays
 
   -- between a moment and itself there is no call, and between two moments with one call between them there is that one
   pub stays : (m : Meaning) (run : Run V R kind) → Continues m [] run run

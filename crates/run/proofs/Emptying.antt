@@ -1,4 +1,4 @@
--- A seated controller is left with all its cells empty.
+-- What the members of a set keep is emptied.
 use Rattle.std.proofs.Common.{◌≡◌, ℕ, ◌+◌, ◌*◌, ◌<◌, Bool, true, false, nat_eq, nat_lt, cond, ◌&&◌, arith, refl, ap, ◌∙◌, List, [], None, Option, length, set, ⊎_elim, sym}
 use Rattle.std.proofs.lemmas.Bool.{cases_lt, cases_eq}
 use Rattle.std.proofs.lemmas.Bool.Decides.{nat_tests}

@@ -91,6 +91,6 @@ settles_more k plain s counts phase next i row cells places columns coordinator 
     made = is ∙ ap (λ n. settled n counts k.fallback (seen k plain cells) columns) size ∙ ap (λ cells. settled s.n counts k.fallback cells columns) (candidates_are k plain s counts i cells places stage size placed heard_at)
         ∙ ap (settled s.n counts k.fallback (candidate s.n counts (hears s i))) (columns_are ∙ ap (hears s i) coordinator_is)
 
--- the row of a receiver lies at its place among all rows
+-- a receiver's row lies at its place among all controllers' rows
 pub noted : {V R : Type 0} {kind : Ghosts V R} (s : Sent V R kind) (cell : Held) (i j : ℕ) → j < s.n → cell ≡ hears s ((i * s.n + j) / s.n) ((i * s.n + j) % s.n) 0 → cell ≡ hears s i j 0
 noted s cell i j lt e = e ∙ ap (λ row. hears s row ((i * s.n + j) % s.n) 0) (div-mul-add i s.n j lt) ∙ ap (λ column. hears s i column 0) (mod-mul-add i s.n j lt)

@@ -49,7 +49,7 @@ module _ {R : Type 0} (k : Rules) (plain : R → List ℕ) (proposals : List R) 
           (fun_ext (λ column. either_none (nat_lt c n && nat_lt column n) (no_rows (c * n + column))))
           (either_none (nat_lt c n) (no_decisions c))
 
-  -- the cells of a block that is opened, as the memory has them
+  -- the cells of a block that is opened, as its store has them
   pub opens : (n initial : ℕ) (next : List (Option R)) (new : Store R) (i j : ℕ) → store n next ≡ new → length proposals ≡ n
       → Filled k plain (λ i. (started (map (means k plain) proposals) initial i).v) new.v n → new.rows ≡ replicate i None → new.decisions ≡ replicate j None
       → kept_in k plain n (store n next) ≡ started (map (means k plain) proposals) initial

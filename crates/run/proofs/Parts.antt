@@ -29,7 +29,7 @@ most_cells n le =
 skip : {A : Type 0} (m k : ℕ) (xs ys : List A) → length xs ≡ m → drop (m + k) (xs ++ ys) ≡ drop k ys
 skip m k xs ys size = ap (λ m. drop (m + k) (xs ++ ys)) (sym size) ∙ drop-append-add xs ys k
 
--- past the needed cells lies what lies past the work cells behind the parts
+-- past the needed cells lies what comes past the work cells after the parts
 past_parts : {A : Type 0} (n : ℕ) (forged rows v decisions behind : List A) → length forged ≡ n * n * n → length rows ≡ n * n → length v ≡ n → length decisions ≡ n
     → drop (needed n) (forged ++ (rows ++ (v ++ (decisions ++ behind)))) ≡ drop (n * n + 3 * n) behind
 past_parts n forged rows v decisions behind forged_size rows_size v_size decisions_size =
@@ -101,7 +101,7 @@ pub decision_is : {R : Type 0} (k : Rules) (plain : R → List ℕ) (n i : ℕ) 
 decision_is k plain n i cells decisions cell lt is in_cells e =
     sym (inside i n _ _ _ lt (ap (λ cells. seen k plain cells i) is ∙ seen_is k plain decisions i ∙ ap (shows k plain) (get_or_default decisions i _ cell in_cells ∙ sym e)))
 
--- the store lies in the cells that are kept, whatever lies behind them
+-- the parts lie in the cells that are kept, whatever comes after them
 module _ {R : Type 0} (n : ℕ) (kept work : List (Option R)) (size : length kept ≡ n * n * n + n * n + 2 * n) where
   store_front : store n (kept ++ work) ≡ store n kept
   store_front =
@@ -137,7 +137,7 @@ module _ {R : Type 0} (k : Rules) (plain : R → List ℕ) (b : Block) (seating 
       ∙ left_is k plain b seating (store b.n kept) (store b.n new) (λ i lt. empties.kept i lt ∙ ap (cond (has seating.set.0 i) blank) (renews.kept i lt))
       ∙ sym (ap (left k plain b seating) was)
 
-  -- what lies behind the work cells lies past the needed ones
+  -- what comes after the work cells lies past the needed ones
   behind_work : (xs : List (Option R)) → length xs ≡ b.n * b.n + 3 * b.n → drop (b.n * b.n + 3 * b.n + 0) (xs ++ rest) ≡ rest
   behind_work xs size = skip (b.n * b.n + 3 * b.n) 0 xs rest size
 

@@ -70,7 +70,7 @@ pub unclosed : {V R : Type 0} {kind : Ghosts V R} (run : Run V R kind) {P : Type
     → ClosesAfter m process algorithm cured run run
 unclosed run m process algorithm cured x log stands b b' s was is = let never : Seated b s ≡ Waiting b' = sym was ∙ is in absurd (cc never)
 
--- a close behind the calls that the run stands after
+-- a close after the calls that the run stands after
 module _ {V R : Type 0} {kind : Ghosts V R} (before after : Run V R kind) (m' : Meaning) (answer : Answer) (stepped : (state after, answer) ≡ step (setting before) m' (state before) Close) where
   pub closes_after : {P : Type 0} (m : Meaning) (process : Memory → P) (algorithm : Algorithm P) (cured : Sending)
       → RunsAfterCalls m process algorithm cured → ClosesAfter m process algorithm cured before after
@@ -83,7 +83,7 @@ pub round_of_calls : {V R : Type 0} {kind : Ghosts V R} (run : Run V R kind) (x 
     → (b : Block) (s : Seating) → state run ≡ Seated b s → RoundsAreOfTheirCalls → IsRoundOf log b s
 round_of_calls run x m log stands b s was rounds = subst (λ (log : Transcript). IsRoundOf log b s) stands.log_is (rounds x m stands.calls b s (stands.state_is ∙ was))
 
--- a decision's answer, behind the transcript of calls that the run stands after
+-- a decision's answer, after the transcript of calls that the run stands after
 pub law_with : {V R : Type 0} {kind : Ghosts V R} → Agreement → (run : Run V R kind) (i : ℕ) (answer : Answer)
     → ((m : Meaning) → (state run, answer) ≡ step (setting run) m (state run) (Decision i)) → LawWith run (Decision i) answer
 law_with agreement run i answer told x m log lawful stands =

@@ -22,7 +22,7 @@ module _ {R : Type 0} (k : Rules) (plain : R → List ℕ) where
   said (Ok (Decided cell)) = machine.Decided (shows k plain cell)
   said (Err why) = machine.Refused why
 
-  -- the answer of a call that has nothing to tell but that it was performed, and of one that tells a cell
+  -- the answer of a call that tells nothing but that it was performed, and of one that tells a cell
   abbrev pub said_done : Result ⊤ Refusal → machine.Answer
   said_done (Ok x) = machine.Done
   said_done (Err why) = machine.Refused why

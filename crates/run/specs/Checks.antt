@@ -13,12 +13,12 @@ use Rattle.run.specs.declared.turns.Seating.{Seating}
 use Rattle.run.specs.Views.{class_in}
 
 -- why a run over so many cells refuses an open, if it does
-abbrev pub why_open : {R : Type 0} → Rules → (R → List ℕ) → Meaning → Opening R → (room : ℕ) → Option Refusal
-why_open k plain m o room = open_refusal (record { cells = room; fallback = k.fallback }) m o.n o.t (map (means k plain) o.proposals.now) o.initial.0
+abbrev pub why_open : {R : Type 0} → Rules → (R → List ℕ) → Meaning → Opening R → (cells : ℕ) → Option Refusal
+why_open k plain m o cells = open_refusal (record { cells = cells; fallback = k.fallback }) m o.n o.t (map (means k plain) o.proposals.now) o.initial.0
 
 -- an open that is not refused, and the block that it makes
-pub record IsOpened {R : Type 0} (k : Rules) (plain : R → List ℕ) (m : Meaning) (o : Opening R) (room : ℕ) (b : Block) : Type 0 where
-  pub accepted : why_open k plain m o room ≡ None
+pub record IsOpened {R : Type 0} (k : Rules) (plain : R → List ℕ) (m : Meaning) (o : Opening R) (cells : ℕ) (b : Block) : Type 0 where
+  pub accepted : why_open k plain m o cells ≡ None
   pub n : b.n ≡ o.n
   pub t : b.t ≡ o.t
   pub counts : b.counts ≡ m.counts o.t

@@ -20,7 +20,7 @@ module _ {R : Type 0} (k : Rules) (plain : R → List ℕ) where
         let kept = kept_in k plain b.n s in
         make (stage_of b.n b.round) terms b.round (kept i) (heard (class_in b.n seating.classes) (sent_in terms b.round kept) (forged_in k plain b.n s) i)
 
-    -- what a close leaves a controller with: the rules' own words for it
+    -- what a close leaves a controller with, by the rules' own `closing`
     abbrev pub left : (controller : ℕ) → Memory
     left = closing terms b.round (has seating.set.0) (class_in b.n seating.classes) (forged_in k plain b.n s) (kept_in k plain b.n s)
 

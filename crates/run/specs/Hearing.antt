@@ -22,6 +22,6 @@ module _ {V R : Type 0} {kind : Ghosts V R} (s : Sent V R kind) where
   abbrev pub hears : (receiver sender column : ℕ) → Held
   hears = heard (class_in s.n s.classes) (λ j. sends s.stage (kept_by j)) (forged_in kind.rules kind.plain s.n store_of)
 
-  -- each receiver's cell is what is made of all that it hears
+  -- the cell of each receiver is what is made of all that it hears
   abbrev pub Computes : (made : (heard : (sender column : ℕ) → Held) → Held) → (cells : List (Option R)) → Type 0
   Computes made cells = (i : ℕ) → i < s.n → seen kind.rules kind.plain cells i ≡ made (hears i)

@@ -26,7 +26,7 @@ use Rattle.run.specs.Views.{view}
 use Rattle.run.specs.Runs.{setting_over, state}
 use Rattle.run.specs.Standing.{entry, Stands}
 
--- whichever counts the block has, the close of a round, from the state before it to the state after it, is the round under them for every unseated controller
+-- whichever counts the block has, a close, from the state before it to the one after it, is for every unseated controller the round under them
 abbrev pub ClosesAnyRound : Setting → (before after : State) → Type 0
 ClosesAnyRound x before after = (b next : Block) (s : Seating) → before ≡ Seated b s → after ≡ Waiting next → Makes (λ own. own) (λ n t. AnyRound n b.counts) x b s next
 
@@ -41,7 +41,7 @@ pub record Published (x : Setting) (before after : State) : Type 0 where
   pub algorithm3 : Closes (stamped (standard Carried)) process2 Algorithm3 x before after
 
 module _ {V R : Type 0} {kind : Ghosts V R} where
-  -- After any calls that all name a model, a close is a round of an algorithm for every unseated controller: whoever was in the last set sends as `cured`
+  -- After any calls that all name a model, a close is for every unseated controller a round of an algorithm: whoever is in the last set sends as `cured`
   -- says, and everybody else as a correct process.
   abbrev pub ClosesAfter : {P : Type 0} → Meaning → (Memory → P) → Algorithm P → (cured : Sending) → (before after : Run V R kind) → Type 0
   ClosesAfter m process algorithm cured before after = (x : Setting) (log : Transcript) → Stands x m log before
@@ -52,7 +52,7 @@ module _ {V R : Type 0} {kind : Ghosts V R} where
     pub algorithm1 : ClosesAfter (standard Unaware) process1 Algorithm1 CuredUnaware before after
     pub algorithm2 : ClosesAfter (stamped (standard Aware)) process2 Algorithm2 CuredAware before after
     pub algorithm3 : ClosesAfter (stamped (standard Carried)) process2 Algorithm3 CuredUnaware before after
-    -- in Buhrman's model the fault arrives after the send, so who is seated only now sends correctly too
+    -- in Buhrman's model the fault arrives after the send, so whoever is not in the last set sends correctly, seated in this round or not
     pub newly_seated : (x : Setting) (log : Transcript) → Stands x (stamped (standard Carried)) log before
         → (b : Block) (s : Seating) → state before ≡ Seated b s → SendsCorrectly x b s
     -- the round, its set and the last set are those of the calls, whichever model they name
@@ -73,7 +73,7 @@ entries (c ∷ calls) (a ∷ answers) = entry c a ∷ entries calls answers
 abbrev pub log_of : {R : Type 0} → Rules → (R → List ℕ) → List (Call R) → List (Result (Answer R) Refusal) → Transcript
 log_of k plain calls answers = entries (map (asked k plain) calls) (map (said k plain) answers)
 
--- a filled or empty cell that one of the first so many answers tells is answered at its place in their transcript
+-- where one of the first so many answers tells a cell, filled or empty, their transcript has this cell answered at the same place
 abbrev pub TellsDecisions : {R : Type 0} → Rules → (R → List ℕ) → (count : ℕ) → List (Call R) → List (Result (Answer R) Refusal) → Type 0
 TellsDecisions {R = R} k plain count calls answers = (i : ℕ) (cell : Option R) → i < count → slice_get answers i ≡ Some (Ok (Decided cell))
     → answered (log_of k plain (take count calls) (take count answers)) i ≡ Some (shows k plain cell)
@@ -89,7 +89,7 @@ module _ {R : Type 0} (k : Rules) (plain : R → List ℕ) (cells : List (Option
   abbrev pub state_left : State
   state_left = state_after (setting_over k cells) m Idle (map (asked k plain) calls)
 
-  -- these are the machine's answers to the calls
+  -- the answers are the machine's to these calls
   abbrev pub AreAnswered : List (Result (Answer R) Refusal) → Type 0
   AreAnswered answers = map (said k plain) answers ≡ replies (setting_over k cells) m (map (asked k plain) calls)
 

@@ -39,12 +39,12 @@ module _ {V R : Type 0} {kind : Ghosts V R} where
     -- a refused call leaves the turn and every cell as they stood, and so does a decision
     pub refused : (why : Refusal) → answer ≡ Refused why → Unaltered before after
     pub decision_unaltered : (controller : ℕ) → call ≡ Decision controller → Unaltered before after
-    -- where no round is seated the machine has no forged cells: an open leaves them empty, and a close as they were
+    -- where no round is seated the machine's state has no forged cells; those of the store an open leaves empty, and a close as they were
     pub open_empties : (n t : ℕ) (proposals : List (List ℕ)) (initial : ℕ) → call ≡ Open n t proposals initial → accepted answer ≡ true → forged_of after ≡ (λ _ _ _. None)
     pub close_keeps : call ≡ Close → accepted answer ≡ true → forged_of after ≡ forged_of before
     -- the cells past the needed number are as they stood
     pub past : drop (needed (size_of after.turn)) after.cells.now ≡ drop (needed (size_of after.turn)) before.cells.now
-    -- the setting stays, and the cells are those that were handed over
+    -- the setting stays, and the cells are those that were lent
     pub setting_stays : setting after ≡ setting before
     pub named : after.cells.ghost_name ≡ before.cells.ghost_name
 

@@ -1,12 +1,12 @@
--- Where the cells of a run lie in the memory that was handed over. Assumes nothing.
+-- Where the cells of a run lie in its store. Assumes nothing.
 use Rattle.std.specs.Prelude.{ℕ, ◌+◌, ◌*◌, List, take, drop, Option, slice_set}
 use Rattle.run.specs.declared.calls.Place.{Place}
 
--- the cells that the rules name, one kind behind the other; work cells and what is past the needed number lie behind them
+-- the cells that the rules name, one part after another; after them come the work cells, and then those past the needed number
 pub record Store (R : Type 0) : Type 0 where
   -- n * n * n cells, by sender, receiver and column
   pub forged : List (Option R)
-  -- n * n cells, by controller and column
+  -- the controllers' rows: n * n cells, by controller and column
   pub rows : List (Option R)
   -- n cells each, by controller
   pub v : List (Option R)
@@ -27,6 +27,6 @@ kept_cells n = n * n * n + n * n + 2 * n
 abbrev pub work_cells : ℕ → ℕ
 work_cells n = n * n + 3 * n
 
--- a cell at the place of a forged message's column
+-- a store with this cell at a place of a forged message
 abbrev pub with_forged : {R : Type 0} → (n : ℕ) → Place → Option R → Store R → Store R
 with_forged n place cell s = record s { forged = slice_set s.forged ((place.sender * n + place.receiver) * n + place.column) cell }

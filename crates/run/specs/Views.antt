@@ -19,7 +19,7 @@ abbrev pub class_in : ℕ → List Class → ℕ → Class
 class_in n classes i = if nat_lt i n then slice_index_or classes i Honest else Honest
 
 module _ {R : Type 0} (k : Rules) (plain : R → List ℕ) where
-  -- the cell forged at a sender, a receiver and a column; there is none at others
+  -- the cell forged at a sender, a receiver and a column; an empty one where the block has no such place
   abbrev pub forged_in : ℕ → Store R → (sender receiver column : ℕ) → Held
   forged_in n s sender receiver column =
       if nat_lt sender n && nat_lt receiver n && nat_lt column n then seen k plain s.forged ((sender * n + receiver) * n + column) else None
@@ -32,7 +32,7 @@ module _ {R : Type 0} (k : Rules) (plain : R → List ℕ) where
     decision = if nat_lt controller n then seen k plain s.decisions controller else None;
   }
 
-  -- the cells of a block that is opened
+  -- the cells of a block that is opened: what its controllers keep at first
   abbrev pub AreStarted : Opening R → List (Option R) → Type 0
   AreStarted o cells = kept_in o.n (store o.n cells) ≡ started (map (means k plain) o.proposals.now) o.initial.0
 

@@ -10,7 +10,7 @@ use models::{Class, MOST_CONTROLLERS, Model, Moved, Set};
 use protocol::{MOST_ROUNDS, Stage};
 use values::{Kind, Refusal};
 
-// Whether a set has a member not below n, or more than t members.
+// Whether a set is too large for a block: it holds a controller that the block does not have, or more than t.
 fn misfits(n: usize, t: usize, set: Set) -> bool
     requires { n ≤ MOST_CONTROLLERS }
     ensures { result ≡ misfits n t set.0 }
@@ -18,13 +18,13 @@ fn misfits(n: usize, t: usize, set: Set) -> bool
     u32::from(set.0) >> n > 0 || set.size() > t
 }
 
-/// The block that an open makes, or why it is refused; the checks are in the order of the rules.
+/// The block that an open makes, or why it is refused: the checks stand in the order of `open_refusal`.
 pub(crate) fn check_open<K: Kind, M: Model>(
     model: &M,
     opening: &Opening<K::Row>,
-    room: usize,
+    cells: usize,
 ) -> Result<Block, Refusal>
-    ensures { FindsOr (IsOpened K.rules K.plain (M.meaning model.now) opening.now room) (why_open K.rules K.plain (M.meaning model.now) opening.now room) result }
+    ensures { FindsOr (IsOpened K.rules K.plain (M.meaning model.now) opening.now cells) (why_open K.rules K.plain (M.meaning model.now) opening.now cells) result }
 {
     let Opening {
         n,
@@ -42,7 +42,7 @@ pub(crate) fn check_open<K: Kind, M: Model>(
     if n <= counts.b + counts.e + counts.l {
         return Err(Refusal::Resilience);
     }
-    if room < needed(n) {
+    if cells < needed(n) {
         return Err(Refusal::StoreSize);
     }
     if proposals.len() != n {
@@ -78,7 +78,7 @@ pub(crate) fn check_seat<M: Model>(model: &M, block: &Block, set: Set) -> Result
     if !model.allows(moved) {
         return Err(Refusal::ForbiddenMove);
     }
-    // A loop: what std promises of an array made by a closure forgets what the closure holds.
+    // In a loop: of an array that a closure fills, std promises too little to know the classes by.
     let mut classes = [Class::Honest; MOST_CONTROLLERS];
     for controller in 0..block.n {
         classes[controller] = model.class(moved, controller);

@@ -6,21 +6,21 @@ ghost use Rattle.protocol.specs.Rounds.{at_place, chosen, held_by, settled};
 use models::{Counts, MOST_CONTROLLERS};
 use values::{Cell, Kind, Quorum, winner};
 
-/// The cell at a place, if there is one.
+/// The cell at a place; an empty one where there is no place.
 pub(crate) fn at_place<K: Kind>(cells: &[Cell<K::Row>], place: Option<usize>) -> Cell<K::Row>
     ensures { shows K.rules K.plain result ≡ at_place (seen K.rules K.plain cells.now) place }
 {
     cells.get(place?).copied().flatten()
 }
 
-/// The value that qualifies among the cells; of several, the one in the lowest-numbered cell.
+/// The value that qualifies among the cells, if there is one; of several, the one in the lowest-numbered cell.
 pub(crate) fn chosen<K: Kind>(cells: &[Cell<K::Row>], quorum: Quorum) -> Cell<K::Row>
     ensures { shows K.rules K.plain result ≡ chosen quorum.at_least quorum.otherwise_at_most (seen K.rules K.plain cells.now) (length cells.now) }
 {
     at_place::<K>(cells, winner::<K>(cells, quorum))
 }
 
-/// To be held by at least so many of some cells, however many of them are filled otherwise.
+/// The quorum of a value that at least so many of some cells hold, however many are filled otherwise.
 pub(crate) fn held_by(at_least: usize, cells: usize) -> Quorum
     ensures { (result.at_least ≡ at_least) × (result.otherwise_at_most ≡ cells) }
 {
@@ -30,8 +30,8 @@ pub(crate) fn held_by(at_least: usize, cells: usize) -> Quorum
     }
 }
 
-/// The value that a deciding round settles on: that of enough candidates, failing that the one of enough cells in the
-/// coordinator's row, failing that the fallback.
+/// The value, as its row, that a deciding round settles on: one that more than l + e candidates are; else one that more
+/// than l cells hold of the row that the coordinator sent; else the fallback.
 pub(crate) fn settled<K: Kind>(
     candidates: &[Cell<K::Row>],
     row: &[Cell<K::Row>],

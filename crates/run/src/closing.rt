@@ -14,7 +14,7 @@ use models::{MOST_CONTROLLERS, Set};
 use protocol::{MOST_ROUNDS, Stage};
 use values::{Cell, Kind};
 
-// Every controller computes from what was sent: into work cells first, so that none reads another's new cells.
+// Computes from what was sent what each controller keeps: in work cells first, so that none reads another's new cells.
 fn renew<K: Kind>(
     block: &Block,
     seating: &Seating,
@@ -61,7 +61,7 @@ fn renew<K: Kind>(
     }
 }
 
-// Empties the row of a controller.
+// Empties a controller's row.
 fn clear_row<K: Kind>(n: usize, controller: usize, rows: &mut [Cell<K::Row>])
     requires size { n ≤ MOST_CONTROLLERS }
     requires controller { controller < n }
@@ -73,7 +73,7 @@ fn clear_row<K: Kind>(n: usize, controller: usize, rows: &mut [Cell<K::Row>])
     clear(&mut rows[start..start + n]);
 }
 
-// A seated controller is left with all its cells empty.
+// Empties v, row and decision of each controller that the set holds.
 fn empty<K: Kind>(n: usize, set: Set, kept: &mut [Cell<K::Row>])
     requires size { n ≤ MOST_CONTROLLERS }
     requires kept { length kept.old ≡ kept_cells n }
@@ -89,7 +89,8 @@ fn empty<K: Kind>(n: usize, set: Set, kept: &mut [Cell<K::Row>])
     }
 }
 
-/// Closes a round: what every controller keeps then, in the cells of a run.
+/// Closes a round in the store: renews what each unseated controller keeps, and empties what a seated one keeps. The
+/// forged cells stay, and so do the cells past those that the block needs.
 pub(crate) fn close<K: Kind>(cells: &mut [Cell<K::Row>], block: &Block, seating: &Seating)
     requires limit { block.now.round < MOST_ROUNDS }
     requires roomy { needed block.now.n ≤ length cells.old }

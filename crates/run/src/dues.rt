@@ -14,6 +14,6 @@ pub enum Due<'c, R> {
     Forge(Block, Seating, Place, Cell<R>),
     /// A close, with the block and the round that is seated.
     Close(Block, Seating),
-    /// A decision, with the block, whether it waits or is seated.
+    /// A decision, with the block, which waits or is seated.
     Decision(Block, usize),
 }

@@ -7,22 +7,22 @@ use models::{Class, MOST_CONTROLLERS};
 use protocol::Stage;
 use values::{Cell, Kind};
 
-/// What was sent in a round, as it lies in the cells.
+/// What was sent in a round, as it lies in the store.
 #[derive(Drop)]
 pub struct Sent<'s, K: Kind> {
     /// The number of controllers.
     pub n: usize,
     /// What the round is for.
     pub stage: Stage,
-    /// How each controller sends.
+    /// How each controller sends, by controller.
     pub classes: [Class; MOST_CONTROLLERS],
     /// The forged cells, by sender, receiver and column.
     pub forged: &'s [Cell<K::Row>],
-    /// What each controller noted, by controller and column.
+    /// The controllers' rows, n cells each, by controller and column.
     pub rows: &'s [Cell<K::Row>],
-    /// The v of each controller.
+    /// The v of each controller, by controller.
     pub v: &'s [Cell<K::Row>],
-    /// The decision of each controller.
+    /// The decision of each controller, by controller.
     pub decisions: &'s [Cell<K::Row>],
     ghost size: { n ≤ MOST_CONTROLLERS },
     ghost forged_size: { length forged.now ≡ n * n * n },
@@ -39,7 +39,7 @@ impl<'s, K: Kind> Sent<'s, K> {
     ghost use Rattle.run.specs.Stores.{store, kept_cells};
     ghost use Rattle.run.specs.Hearing.{store_of, kept_by, hears, IsWithin};
 
-    /// What was sent in a round of so many controllers, from the cells that they kept and those that are forged.
+    /// What was sent in a round of n controllers, by the cells that they keep and those that are forged.
     pub(crate) fn over(
         n: usize,
         stage: Stage,
@@ -91,7 +91,7 @@ impl<'s, K: Kind> Sent<'s, K> {
         }
     }
 
-    /// The cells that a receiver hears from all senders in a column.
+    /// Puts what a receiver hears in a column into cells, by sender.
     pub(crate) fn hear_senders(&self, receiver: usize, column: usize, cells: &mut [Cell<K::Row>])
         requires receiver { receiver < self.now.n }
         requires column { column < columns_of self.now.stage self.now.n }
@@ -103,7 +103,7 @@ impl<'s, K: Kind> Sent<'s, K> {
         }
     }
 
-    /// The cells that a receiver hears from a sender in all columns of a deciding round.
+    /// Puts what a receiver hears from a sender in a deciding round into cells, by column.
     pub(crate) fn hear_columns(&self, receiver: usize, sender: usize, cells: &mut [Cell<K::Row>])
         requires receiver { receiver < self.now.n }
         requires sender { sender < self.now.n }
@@ -116,7 +116,7 @@ impl<'s, K: Kind> Sent<'s, K> {
         }
     }
 
-    // The cell that a receiver hears in a column from the sender at a place, if there is one.
+    // The cell that a receiver hears in a column from the sender at a place; an empty one where there is no place.
     fn heard_at(&self, receiver: usize, place: Option<usize>, column: usize) -> Cell<K::Row>
         requires receiver { receiver < self.now.n }
         requires column { column < columns_of self.now.stage self.now.n }
@@ -126,7 +126,8 @@ impl<'s, K: Kind> Sent<'s, K> {
         self.heard(receiver, place?, column)
     }
 
-    /// The cell that a receiver hears in each column from the sender at the column's place, if it has one.
+    /// Puts what a receiver hears in each column from the sender at the column's place into cells, by column; an empty
+    /// cell where the column has no place.
     pub(crate) fn hear_places(
         &self,
         receiver: usize,

@@ -1,4 +1,4 @@
-//! The run: the machine in code, over lent memory.
+//! The run: the machine of `protocol` in code, over a store that its caller lends.
 #![tactic(auto)]
 
 mod calls;

@@ -2,7 +2,7 @@ ghost use Rattle.std.specs.Prelude.{◌≡◌, ◌+◌, ◌*◌, ◌<◌, ◌≤
 
 use models::MOST_CONTROLLERS;
 
-/// The place of a controller's column among the rows.
+/// The place of a column of a controller's row among the n * n cells of all controllers' rows.
 pub(crate) fn row_place(n: usize, controller: usize, column: usize) -> usize
     requires size { n ≤ MOST_CONTROLLERS }
     requires controller { controller < n }
@@ -13,7 +13,7 @@ pub(crate) fn row_place(n: usize, controller: usize, column: usize) -> usize
     controller * n + column
 }
 
-/// The place of a message's column among the forged cells.
+/// The place of a message's column among the n * n * n forged cells.
 pub(crate) fn forged_place(n: usize, sender: usize, receiver: usize, column: usize) -> usize
     requires size { n ≤ MOST_CONTROLLERS }
     requires sender { sender < n }

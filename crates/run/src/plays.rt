@@ -9,7 +9,7 @@ use models::Model;
 use protocol::decisions_agree;
 use values::{Cell, Kind, Refusal};
 
-// Puts an answer at its place. Over any type: where an index into answers lies in memory is then plain.
+// Puts an answer at its place. It is over any type, since then it is plain where the element at an index lies.
 fn put<A: Copy>(answers: &mut [A], at: usize, answer: A)
     requires { at < length answers.old }
     ensures { answers.new ≡ slice_set answers.old at answer }
@@ -17,8 +17,12 @@ fn put<A: Copy>(answers: &mut [A], at: usize, answer: A)
     answers[at] = answer;
 }
 
-/// Makes a new run over the cells, performs calls that all name one model, and puts the answer of each at its place, until
-/// the calls or the places end. It tells how many were performed. The places past them stay as they are.
+/// Makes a new run over the cells and performs the calls one after another, all under one model. Call i's answer or
+/// refusal is put into `answers[i]`. A refused call does not end it; the end of the calls or of the places does.
+///
+/// Returns how many calls were performed. The places past them stay as they are. So do the cells past those that the
+/// block needs, and all cells if no block was opened. Under a lawful model the calls that were performed, beside their
+/// answers, obey `Law`, which says how decisions agree.
 pub fn play<K: Kind, M: Model>(
     cells: &mut [Cell<K::Row>],
     model: &M,
@@ -33,12 +37,12 @@ pub fn play<K: Kind, M: Model>(
     ensures left { ShowStateLeft K.rules K.plain cells.old (M.meaning model.now) (take result calls.now) cells.new }
     ensures past { StayPastBlock K.rules K.plain cells.old (M.meaning model.now) (take result calls.now) cells.new }
 {
-    // This does nothing; it is the theorem that `law` rests on.
+    // The theorem that `law` rests on; the call does nothing.
     decisions_agree();
     let count = calls.len().min(answers.len());
     let mut run = Run::<K>::new(cells);
     for at in 0..count {
-        // By `get`: generic code cannot copy a call out of a slice by its index.
+        // By `get`, since generic code cannot copy a call out of a slice by its index.
         let Some(call) = calls.get(at).copied() else {
             unreachable!()
         };

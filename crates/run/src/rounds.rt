@@ -9,7 +9,7 @@ use models::{Counts, MOST_CONTROLLERS};
 use protocol::{Stage, coordinator};
 use values::{Cell, Kind, Quorum, winner};
 
-// What each receiver chooses among the cells that it hears in column 0.
+// Puts what each receiver chooses among the cells that it hears in column 0 into `next`; `column` is to work in.
 fn vote<K: Kind>(
     sent: &Sent<K>,
     quorum: Quorum,
@@ -26,8 +26,8 @@ fn vote<K: Kind>(
     }
 }
 
-/// The v of each receiver after a proposing round: the value that at least n - b cells hold while at most l are filled
-/// otherwise.
+/// Puts each receiver's v after a proposing round into `next`: the value, if there is one, that at least n - b cells
+/// hold with at most l filled otherwise.
 pub(crate) fn propose<K: Kind>(
     sent: &Sent<K>,
     counts: Counts,
@@ -46,7 +46,8 @@ pub(crate) fn propose<K: Kind>(
     vote(sent, quorum, column, next);
 }
 
-/// The decision of each receiver after a maintaining round: the value that at least n - b cells hold.
+/// Puts each receiver's decision after a maintaining round into `next`: the value, if there is one, that at least n - b
+/// cells hold.
 pub(crate) fn maintain<K: Kind>(
     sent: &Sent<K>,
     counts: Counts,
@@ -62,7 +63,7 @@ pub(crate) fn maintain<K: Kind>(
     vote(sent, quorum, column, next);
 }
 
-/// What each receiver hears from each sender in column 0.
+/// Puts the controllers' rows after a collecting round into `rows`: what each receiver hears in column 0, by sender.
 pub(crate) fn collect<K: Kind>(sent: &Sent<K>, rows: &mut [Cell<K::Row>])
     requires stage { sent.now.stage ≡ Stage.Collecting }
     requires rows { length rows.old ≡ sent.now.n * sent.now.n }
@@ -74,7 +75,7 @@ pub(crate) fn collect<K: Kind>(sent: &Sent<K>, rows: &mut [Cell<K::Row>])
     }
 }
 
-// The place of a column's candidate, which is the value that more than l senders hold there; a column may have none.
+// The place of a column's candidate: the value that more than l senders hold there, if there is one.
 fn candidate<K: Kind>(column: &[Cell<K::Row>], counts: Counts) -> Option<usize>
     requires few { counts.l < MOST_CONTROLLERS }
     ensures place { result ≡ winning (suc counts.l) (length column.now) (seen K.rules K.plain column.now) (length column.now) }
@@ -105,7 +106,8 @@ fn candidates<K: Kind>(
     places
 }
 
-/// What each receiver settles on.
+/// Puts the value that each receiver settles on in the deciding round of a phase into `next`. `column` and `cells` are
+/// to work in.
 pub(crate) fn decide<K: Kind>(
     sent: &Sent<K>,
     counts: Counts,

@@ -16,7 +16,10 @@ use protocol::{
 };
 use values::{Cell, Kind, Refusal};
 
-/// A run over lent cells.
+/// A run: the machine of `protocol`, over a store that its caller lends.
+///
+/// It stands idle until a block is opened; then it waits for a seat, is seated until the close, and waits again. A call
+/// at another turn than its own is refused. A refused call alters neither the turn nor a cell.
 #[derive(Drop)]
 pub struct Run<'a, K: Kind> {
     cells: &'a mut [Cell<K::Row>],
@@ -34,7 +37,8 @@ impl<'a, K: Kind> Run<'a, K> {
     ghost use Rattle.run.specs.Calls.{asked, said, said_done, said_cell};
     ghost use Rattle.run.specs.Runs.{setting_over, setting, state, Unaltered, Performs, PerformsAnyway, Answers};
 
-    /// A new run over the cells, which stay as they are.
+    /// A new run, which is idle. Its store may have any number of cells, and they stay as they are; an open needs
+    /// `needed(n)` of them.
     pub fn new(cells: &'a mut [Cell<K::Row>]) -> Run<'a, K>
         ensures named { result.cells.ghost_name ≡ cells.entry.ghost_name }
         ensures cells { result.cells.now ≡ cells.old }
@@ -47,8 +51,8 @@ impl<'a, K: Kind> Run<'a, K> {
         }
     }
 
-    // A call that comes at its turn, with what it finds there, or its refusal where it does not. It is here alone that a call
-    // meets the turn.
+    // The call with what it finds at its turn, or the refusal of a call that comes at another. Only here is a call
+    // looked at together with the turn.
     fn due<'c>(&self, call: Call<'c, K::Row>) -> Result<Due<'c, K::Row>, Refusal>
         ensures { MatchResult result (λ due. IsDue call.entry self.now.turn due) (λ why. Answers self.now (asked K.rules K.plain call.entry) (machine.Refused why)) }
     {
@@ -71,8 +75,8 @@ impl<'a, K: Kind> Run<'a, K> {
         requires { self.now.turn ≡ Turn.Idle }
         ensures { Performs (M.meaning model.now) (asked K.rules K.plain (Call.Open opening.entry)) (said_done K.rules K.plain result) self.old self.new }
     {
-        let room = self.cells.len();
-        let block = check_open::<K, M>(model, &opening, room)?;
+        let cells = self.cells.len();
+        let block = check_open::<K, M>(model, &opening, cells)?;
         fill_opened::<K>(self.cells, opening);
         self.turn = Turn::Waiting(block);
         Ok(())
@@ -123,7 +127,9 @@ impl<'a, K: Kind> Run<'a, K> {
         Ok(decision_at::<K>(self.cells, block.n, controller))
     }
 
-    /// Performs a call, under the model where the call is one that names it.
+    /// Performs any of the five calls, and returns its answer or its refusal. Only an open and a seat ask the model.
+    ///
+    /// What each call does, and when it is refused, stands at the method with its name.
     pub fn perform<M: Model>(
         &mut self,
         model: &M,
@@ -155,7 +161,11 @@ impl<'a, K: Kind> Run<'a, K> {
         }
     }
 
-    /// Opens a block. The counts of this model serve the whole run.
+    /// Opens a block: each v becomes that controller's proposal, or empty if the initial set holds it; forged cells,
+    /// controllers' rows and decisions become empty. The counts of this model serve the whole run.
+    ///
+    /// Refused with the first that applies: `OutOfTurn` unless the run is idle, `BlockSize`, `FaultCount`, `Resilience`
+    /// by the model's counts for t, `StoreSize`, `ProposalCount`, `SetMembers` for the initial set.
     pub fn open<M: Model>(&mut self, model: &M, opening: Opening<K::Row>) -> Result<(), Refusal>
         ensures { Performs (M.meaning model.now) (asked K.rules K.plain (Call.Open opening.entry)) (said_done K.rules K.plain result) self.old self.new }
     {
@@ -163,7 +173,10 @@ impl<'a, K: Kind> Run<'a, K> {
         Ok(())
     }
 
-    /// Begins a round: whoever the set holds is seated, and the classes are fixed by this model.
+    /// Begins a round: whoever the set holds is seated, this model fixes the classes, and nothing is forged yet.
+    ///
+    /// Refused with the first that applies: `OutOfTurn` unless a block waits, `RoundLimit` after 1,000 rounds,
+    /// `SetMembers`, `ForbiddenMove` where the model does not allow the move from the last set to this one.
     pub fn seat<M: Model>(&mut self, model: &M, set: Set) -> Result<(), Refusal>
         ensures { Performs (M.meaning model.now) (machine.Seat set.0) (said_done K.rules K.plain result) self.old self.new }
     {
@@ -173,7 +186,10 @@ impl<'a, K: Kind> Run<'a, K> {
         Ok(())
     }
 
-    /// Puts a cell, filled or empty, at a place of a forged message.
+    /// Puts a cell, filled or empty, at a place of a forged message, where it replaces an earlier one.
+    ///
+    /// Refused with the first that applies: `OutOfTurn` unless a round is seated, `NoSuchPlace`, `NotForgeable` by the
+    /// sender's class, which the seat fixed.
     pub fn forge(&mut self, place: Place, cell: Cell<K::Row>) -> Result<(), Refusal>
         ensures performed { PerformsAnyway (asked K.rules K.plain (Call.Forge place cell)) (said_done K.rules K.plain result) self.old self.new }
         ensures refused { IfErr result (λ _. Unaltered self.old self.new) }
@@ -186,7 +202,12 @@ impl<'a, K: Kind> Run<'a, K> {
         }
     }
 
-    /// Ends a round: every unseated controller computes from what was sent. It is refused only where no round is seated.
+    /// Ends a round: each unseated controller computes from what was sent, and what a seated one kept is emptied. It is
+    /// refused with `OutOfTurn` unless a round is seated, and for nothing else.
+    ///
+    /// For every unseated controller of a block with the counts of unaware, the round is one of Algorithm 1 of
+    /// IS-RR-2014-004; with the counts of stamped aware or stamped carried, it is one of Algorithm 2 or Algorithm 3 of
+    /// LIPIcs.OPODIS.2025.7 (docs/PUBLICATIONS.md).
     pub fn close(&mut self) -> Result<(), Refusal>
         ensures performed { PerformsAnyway machine.Close (said_done K.rules K.plain result) self.old self.new }
         ensures any_counts { ClosesAnyRound (setting self.old) (state self.old) (state self.new) }
@@ -195,7 +216,7 @@ impl<'a, K: Kind> Run<'a, K> {
         ensures refused { IfErr result (λ _. Unaltered self.old self.new) }
         ensures stays { setting self.new ≡ setting self.old }
     {
-        // These do nothing; they are the theorems that these promises rest on.
+        // The theorems that these promises rest on; the calls do nothing.
         rounds_under_any_counts();
         unaware_runs_algorithm_1();
         stamped_aware_runs_algorithm_2();
@@ -209,13 +230,17 @@ impl<'a, K: Kind> Run<'a, K> {
         Ok(())
     }
 
-    /// The decision cell of a controller: empty, or a row. A row may be one that breaks its kind's rule, where such a row was
-    /// forged; it then stands for the fallback. `K::value(&row)` is the value that it means, and `same_value` compares two.
+    /// The decision of a controller: an empty cell, or a value's row. Where rows that break the rule of their kind were
+    /// proposed or forged it may be one of these, and stands for the fallback. `K::value(&row)` is the value that a row
+    /// means, and `same_value` compares two.
+    ///
+    /// Refused with the first that applies: `OutOfTurn` if the run is idle, `NoSuchPlace` if the block has no such
+    /// controller, `WasSeated`.
     pub fn decision(&self, controller: usize) -> Result<Cell<K::Row>, Refusal>
         ensures performed { PerformsAnyway (machine.Decision controller) (said_cell K.rules K.plain result) self.now self.now }
         ensures law { LawWith self.now (machine.Decision controller) (said_cell K.rules K.plain result) }
     {
-        // This does nothing; it is the theorem that `law` rests on.
+        // The theorem that `law` rests on; the call does nothing.
         decisions_agree();
         let call: Call<'a, K::Row> = Call::Decision(controller);
         match self.due(call)? {

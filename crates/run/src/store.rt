@@ -17,8 +17,8 @@ pub(crate) fn clear<R: Copy>(cells: &mut [Cell<R>])
     cells.fill(None);
 }
 
-/// Fills the cells of a block that is opened: each v is that controller's proposal, but is empty for members of the initial
-/// set, and all else is empty.
+/// Fills the store for a block that is opened: v with the proposals, but none for whoever the initial set holds. Forged
+/// cells, controllers' rows and decisions are emptied.
 pub(crate) fn fill_opened<K: Kind>(cells: &mut [Cell<K::Row>], opening: Opening<K::Row>)
     requires size { opening.n ≤ MOST_CONTROLLERS }
     requires roomy { needed opening.n ≤ length cells.old }
@@ -57,7 +57,7 @@ pub(crate) fn clear_forged<R: Copy>(cells: &mut [Cell<R>], n: usize)
     clear(forged);
 }
 
-/// Puts a forged cell.
+/// Puts a cell at a place of a forged message.
 pub(crate) fn put_forged<R: Copy>(cells: &mut [Cell<R>], n: usize, place: Place, cell: Cell<R>)
     requires size { n ≤ MOST_CONTROLLERS }
     requires roomy { needed n ≤ length cells.old }
@@ -71,7 +71,7 @@ pub(crate) fn put_forged<R: Copy>(cells: &mut [Cell<R>], n: usize, place: Place,
     forged[forged_place(n, place.sender, place.receiver, place.column)] = cell;
 }
 
-/// Puts the rows of all controllers.
+/// Puts all controllers' rows.
 pub(crate) fn put_rows<R: Copy>(cells: &mut [Cell<R>], n: usize, new: &[Cell<R>])
     requires size { n ≤ MOST_CONTROLLERS }
     requires roomy { kept_cells n ≤ length cells.old }

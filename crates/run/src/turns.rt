@@ -23,7 +23,7 @@ pub struct Block {
 }
 
 impl Block {
-    // The block when a round is closed in which the set's members were seated.
+    // The block after the close of a round in which the set's members were seated.
     pub(crate) fn closed(self, set: Set) -> Block
         requires { self.round < MOST_ROUNDS }
         ensures same { (result.n ≡ self.n) × (result.t ≡ self.t) × (result.counts ≡ self.counts) }

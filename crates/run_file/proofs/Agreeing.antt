@@ -5,7 +5,7 @@ use Rattle.std.proofs.lemmas.Bool.{cases_lt}
 use Rattle.std.proofs.lemmas.List.{append-nil, append_assoc, length-map}
 use Rattle.values.specs.declared.refusals.Refusal.{Refusal}
 use Rattle.values.specs.Cells.{Held}
-use Rattle.values.specs.Rules.{Rules, words}
+use Rattle.values.specs.Rules.{Rules, numbers}
 use Rattle.models.specs.declared.classes.Class.TheVariants.{Honest}
 use Rattle.models.specs.Sets.{has}
 use Rattle.models.specs.Laws.{Meaning, Lawful}
@@ -13,7 +13,7 @@ use Rattle.protocol.specs.Machine.{Setting, State, Idle, Waiting, Seated, Call, 
 use Rattle.protocol.specs.Transcripts.{Transcript, accepted, Opening, sets_in, closes_in, told_cell, opening, sets, closes, answered, Clean, Filled, Proposed, Agrees, transcript, Agreement}
 use Rattle.run_file.specs.declared.headers.Header.{Header}
 use Rattle.run_file.specs.declared.stops.Stop.{Stop}
-use Rattle.run_file.specs.Files.{pieces, word, laid_out, proposals, initial_set, round_sets, sets_start, forgery_lines}
+use Rattle.run_file.specs.Files.{pieces, number_at, laid_out, proposals, initial_set, round_sets, sets_start, forgery_lines}
 use Rattle.run_file.specs.Headers.{model_of}
 use Rattle.run_file.specs.Lines.{Line, line}
 use Rattle.run_file.specs.Votes.{Asked, in_round, forges, lines_of, rounds_from, stopped, unless_stopped, run_through}
@@ -77,7 +77,7 @@ same_state x m (Seated b s) i = unless_same (decision_refusal b i) (Seated b s) 
 abbrev calls_in : List Asked → List Call
 calls_in = map (λ a. a.call)
 
--- the transcript of calls that are all accepted, and of more behind them
+-- the transcript of calls that are all accepted, and of more after them
 module _ (x : Setting) (m : Meaning) where
   -- what a decision answers
   abbrev pub told : State → ℕ → Answer
@@ -120,7 +120,7 @@ module _ (x : Setting) (m : Meaning) where
       let next : suc (length asked) + k ≡ suc (length asked + k) = omega arith in
       ap (answered (log s (a ∷ asked) more)) next ∙ ran_answered (step x m s a.call).0 end asked more k on.1
 
-  -- two decisions behind them, from the open on
+  -- two decisions after them, from the open on
   module _ (end : State) (asked : List Asked) (ran : run_through x m Idle asked ≡ Ok end) (i j : ℕ) where
     abbrev both : Transcript
     both = log Idle asked (Decision i ∷ Decision j ∷ [])
@@ -211,7 +211,7 @@ pieces_count width (suc count) bytes = ap suc (pieces_count width count (drop wi
 module _ (agreement : Agreement) (k : Rules) (cells : ℕ) (h : Header) (lawful : Lawful (model_of h)) (bytes : List ℕ) (laid : laid_out k.width h bytes ≡ true) (s : State)
     (ran : run_through (setting_of k cells) (model_of h) Idle (calls_of k h bytes) ≡ Ok s) where
   abbrev opening_of : Opening
-  opening_of = record { n = h.n; t = h.t; proposals = map words (proposals k.width h bytes); initial = initial_set k.width h bytes }
+  opening_of = record { n = h.n; t = h.t; proposals = map numbers (proposals k.width h bytes); initial = initial_set k.width h bytes }
 
   abbrev seated_of : List ℕ
   seated_of = round_sets k.width h bytes
@@ -227,7 +227,7 @@ module _ (agreement : Agreement) (k : Rules) (cells : ℕ) (h : Header) (lawful 
   Free i = has (last_set h bytes) i ≡ false
 
   count : length seated_of ≡ h.rounds
-  count = let rest = drop (sets_start k.width h + 2) bytes in length-map (pieces 2 h.rounds rest) (λ two. word two 0) ∙ pieces_count 2 h.rounds rest
+  count = let rest = drop (sets_start k.width h + 2) bytes in length-map (pieces 2 h.rounds rest) (λ two. number_at two 0) ∙ pieces_count 2 h.rounds rest
 
   cell_of : (i : ℕ) → i < h.n → Free i → (cell : Held) × (answer i ≡ Decided cell)
   cell_of = free_last k (model_of h) cells h bytes laid s ran

@@ -6,7 +6,7 @@ use Rattle.std.proofs.lemmas.List.{get_or-take, get_or-drop, drop-drop}
 use Rattle.values.specs.declared.refusals.Refusal.{Refusal}
 use Rattle.values.specs.declared.refusals.Refusal.TheVariants.{WasSeated}
 use Rattle.values.specs.Cells.{Held}
-use Rattle.values.specs.Rules.{Rules, words}
+use Rattle.values.specs.Rules.{Rules, numbers}
 use Rattle.models.specs.Sets.{has}
 use Rattle.models.specs.Laws.{Meaning}
 use Rattle.protocol.specs.Machine.{
@@ -34,13 +34,13 @@ use Rattle.protocol.specs.Machine.{
   step,
 }
 use Rattle.run_file.specs.declared.headers.Header.{Header}
-use Rattle.run_file.specs.Files.{byte, word, pieces, proposals, initial_set, round_sets, sets_start, laid_out, forgery_lines}
+use Rattle.run_file.specs.Files.{byte, number_at, pieces, proposals, initial_set, round_sets, sets_start, laid_out, forgery_lines}
 use Rattle.run_file.specs.Lines.{Line, line, cell_of}
 use Rattle.run_file.specs.Votes.{Asked, in_round, forges, lines_of, rounds_from, stopped, unless_stopped, run_through}
 use Rattle.run_file.specs.Listings.{setting_of, calls_of}
 use Rattle.run_file.specs.Promises.{first_set, set_in, last_set, proposal_in}
 
--- what is read off piece i of some that lie one behind the other, from a place on
+-- what is read off piece i of some that lie one after another, from a place on
 piece_at : {A : Type 0} (f : List ℕ → A) (none : A) (width : ℕ) (bytes : List ℕ) (n at i : ℕ) → i < n → slice_index_or (map f (pieces width n (drop at bytes))) i none ≡ f (take width (drop (at + width * i) bytes))
 piece_at f none width bytes zero at i lt = absurd (omega arith)
 piece_at f none width bytes (suc n) at zero lt = ap (λ at. f (take width (drop at bytes))) (omega arith)
@@ -49,9 +49,9 @@ piece_at f none width bytes (suc n) at (suc i) lt =
     ∙ piece_at f none width bytes n (at + width) i (omega arith)
     ∙ ap (λ at. f (take width (drop at bytes))) (omega arith)
 
--- a piece of two bytes is a word
-piece_word : (bytes : List ℕ) (at : ℕ) → word (take 2 (drop at bytes)) 0 ≡ word bytes at
-piece_word bytes at =
+-- what a piece of two bytes holds is the number at its place
+piece_number : (bytes : List ℕ) (at : ℕ) → number_at (take 2 (drop at bytes)) 0 ≡ number_at bytes at
+piece_number bytes at =
     let low : byte (take 2 (drop at bytes)) 0 ≡ byte bytes at = get_or-take 2 (drop at bytes) 0 0 (omega arith) ∙ get_or-drop at bytes 0 0 ∙ ap (byte bytes) (omega arith) in
     let high : byte (take 2 (drop at bytes)) 1 ≡ byte bytes (at + 1) = get_or-take 2 (drop at bytes) 1 0 (omega arith) ∙ get_or-drop at bytes 1 0 in
     omega arith
@@ -62,34 +62,34 @@ module _ (k : Rules) (h : Header) (bytes : List ℕ) (laid : laid_out k.width h 
   sets_there = grind (arith, nat_tests)
 
   pub file_first : initial_set k.width h bytes ≡ first_set h bytes
-  file_first = ap (word bytes) sets_there
+  file_first = ap (number_at bytes) sets_there
 
   pub file_set : (r : ℕ) → r < h.rounds → slice_index (round_sets k.width h bytes) r ≡ set_in h bytes r
   file_set r lt =
-      piece_at (λ two. word two 0) 0 2 bytes h.rounds (sets_start k.width h + 2) r lt
-      ∙ piece_word bytes (sets_start k.width h + 2 + 2 * r)
-      ∙ ap (word bytes) (omega (arith, sets_there))
+      piece_at (λ two. number_at two 0) 0 2 bytes h.rounds (sets_start k.width h + 2) r lt
+      ∙ piece_number bytes (sets_start k.width h + 2 + 2 * r)
+      ∙ ap (number_at bytes) (omega (arith, sets_there))
 
-  pub file_proposal : (i : ℕ) → i < h.n → slice_index_or (map Some (map words (proposals k.width h bytes))) i None ≡ Some (proposal_in k h bytes i)
+  pub file_proposal : (i : ℕ) → i < h.n → slice_index_or (map Some (map numbers (proposals k.width h bytes))) i None ≡ Some (proposal_in k h bytes i)
   file_proposal i lt =
       let there : 16 ≡ h.proposals_at = grind (arith, nat_tests) in
-      ap (λ values. slice_index_or values i None) (map-map Some words (proposals k.width h bytes))
-      ∙ piece_at (λ value. Some (words value)) None k.width bytes h.n 16 i lt
-      ∙ ap (λ at. Some (words (take k.width (drop (at + k.width * i) bytes)))) there
+      ap (λ values. slice_index_or values i None) (map-map Some numbers (proposals k.width h bytes))
+      ∙ piece_at (λ value. Some (numbers value)) None k.width bytes h.n 16 i lt
+      ∙ ap (λ at. Some (numbers (take k.width (drop (at + k.width * i) bytes)))) there
 
 -- the last of some sets, or the one before them where there is none
 abbrev last_of : ℕ → List ℕ → ℕ
 last_of set [] = set
 last_of set (next ∷ sets) = last_of next sets
 
-last_word : (bytes : List ℕ) (n at : ℕ) → last_of (word bytes at) (map (λ two. word two 0) (pieces 2 n (drop (at + 2) bytes))) ≡ word bytes (at + 2 * n)
-last_word bytes zero at = ap (word bytes) (omega arith)
-last_word bytes (suc n) at =
+last_number : (bytes : List ℕ) (n at : ℕ) → last_of (number_at bytes at) (map (λ two. number_at two 0) (pieces 2 n (drop (at + 2) bytes))) ≡ number_at bytes (at + 2 * n)
+last_number bytes zero at = ap (number_at bytes) (omega arith)
+last_number bytes (suc n) at =
     let rest = pieces 2 n (drop 2 (drop (at + 2) bytes)) in
-    ap (λ set. last_of set (map (λ two. word two 0) rest)) (piece_word bytes (at + 2))
-    ∙ ap (λ bytes_left. last_of (word bytes (at + 2)) (map (λ two. word two 0) (pieces 2 n bytes_left))) (drop-drop 2 (at + 2) bytes)
-    ∙ last_word bytes n (at + 2)
-    ∙ ap (word bytes) (omega arith)
+    ap (λ set. last_of set (map (λ two. number_at two 0) rest)) (piece_number bytes (at + 2))
+    ∙ ap (λ bytes_left. last_of (number_at bytes (at + 2)) (map (λ two. number_at two 0) (pieces 2 n bytes_left))) (drop-drop 2 (at + 2) bytes)
+    ∙ last_number bytes n (at + 2)
+    ∙ ap (number_at bytes) (omega arith)
 
 module _ (x : Setting) (m : Meaning) where
   -- a call that is not refused, with the calls after it
@@ -132,13 +132,13 @@ module _ (k : Rules) (m : Meaning) (cells : ℕ) (h : Header) (bytes : List ℕ)
   waits : Waits (setting_of k cells) m h.n (last_set h bytes) s
   waits =
       let x = setting_of k cells in
-      let values = map words (proposals k.width h bytes) in
+      let values = map numbers (proposals k.width h bytes) in
       let initial = initial_set k.width h bytes in
       let sets = round_sets k.width h bytes in
       let lines = map line (forgery_lines k.width h bytes) in
       let b = opened m h.n h.t values initial in
       let w = rounds_end x m 0 sets lines b s (goes_on x m (open_refusal x m h.n h.t values initial) Idle (Waiting b) s None (rounds_from 0 sets lines) ran) in
-      (w.0, w.1, w.2, w.3 ∙ last_word bytes h.rounds (sets_start k.width h) ∙ ap (λ at. word bytes (at + 2 * h.rounds)) (sets_there k h bytes laid))
+      (w.0, w.1, w.2, w.3 ∙ last_number bytes h.rounds (sets_start k.width h) ∙ ap (λ at. number_at bytes (at + 2 * h.rounds)) (sets_there k h bytes laid))
 
   -- a decision is refused to the members of the last set
   pub seated_last : (i : ℕ) → i < h.n → has (last_set h bytes) i ≡ true → (step (setting_of k cells) m s (Decision i)).1 ≡ Refused WasSeated

@@ -5,7 +5,7 @@ use Rattle.std.proofs.lemmas.Bool.Decides.{nat_tests}
 use Rattle.values.specs.declared.kinds.Kind.{Ghosts}
 use Rattle.values.specs.declared.refusals.Refusal.{Refusal}
 use Rattle.values.specs.declared.refusals.Refusal.TheVariants.{BlockSize}
-use Rattle.values.specs.Rules.{means, words}
+use Rattle.values.specs.Rules.{means, numbers}
 use Rattle.models.specs.Laws.{Meaning}
 use Rattle.protocol.specs.Machine.{Setting, State, Idle, Waiting, Call, Open, Done, Refused, Answer, open_refusal, opened, unless, step, ◌when◌, ◌then◌}
 use Rattle.run.specs.declared.run.Run.{Run}
@@ -55,7 +55,7 @@ module _ {V R : Type 0} {kind : Ghosts V R} (m : Meaning) (h : Header) (p : Part
       → (state b, said_done kind.rules kind.plain answer) ≡ step (setting a) m Idle (opens h p).call
   stepped n t some rows performs idle has_rows count n_is t_is enough =
       let proposals = map (means kind.rules kind.plain) (take some rows) in
-      let all = map words (pieces_of p.proposals) in
+      let all = map numbers (pieces_of p.proposals) in
       let same : h.n ≤ 16 → proposals ≡ all = λ few. ap (λ n. map (means kind.rules kind.plain) (take n rows)) (enough few ∙ sym count) ∙ has_rows (omega (arith, count, few)) in
       performs.stepped ∙ ap (λ s. step (setting a) m s (Open n t proposals p.initial.0)) idle ∙ ap (λ n. step (setting a) m Idle (Open n t proposals p.initial.0)) n_is
       ∙ ap (λ t. step (setting a) m Idle (Open h.n t proposals p.initial.0)) t_is ∙ alike (setting a) m h.n h.t proposals all p.initial.0 same
@@ -64,7 +64,7 @@ module _ {V R : Type 0} {kind : Ghosts V R} (m : Meaning) (h : Header) (p : Part
   size_when_done e told = go answer told e
     where
       go : (answer : Result ⊤ Refusal) → stop_at None answer ≡ Ok tt → (state b, said_done kind.rules kind.plain answer) ≡ step (setting a) m Idle (opens h p).call → (size_of b.turn ≡ h.n) × (0 < h.n) × (h.n ≤ 16)
-      go (Ok x) told e = let size = opened_size (setting a) m h.n h.t (map words (pieces_of p.proposals)) p.initial.0 (state b) e in (sym (size_is b) ∙ size.0, size.1, size.2)
+      go (Ok x) told e = let size = opened_size (setting a) m h.n h.t (map numbers (pieces_of p.proposals)) p.initial.0 (state b) e in (sym (size_is b) ∙ size.0, size.1, size.2)
       go (Err why) told e = absurd (grind arith)
 
 -- a refused call leaves every cell as it was

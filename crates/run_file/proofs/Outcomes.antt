@@ -42,7 +42,7 @@ module _ (k : Rules) (h : Header) (bytes : List ℕ) (p : Parts) (sound : file_r
     unfolding cells_used
     used_is = rw sound (ap (λ (a : Asked). needed (block_size (step (setting_of k cells) m Idle a.call).0)) (sym same_open))
 
-  -- past the cells that it uses all is as it was handed over
+  -- past the cells that it uses the store is as it was lent
   pub past_used : {X : Type 0} (m : Meaning) (start end cells : List X) → start ≡ cells
       → (let used = needed (block_size (step (record { cells = length start; fallback = k.fallback }) m Idle (opens h p).call).0) in drop used end ≡ drop used start)
       → drop (cells_used k m (length cells) h bytes) end ≡ drop (cells_used k m (length cells) h bytes) cells

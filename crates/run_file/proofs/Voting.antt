@@ -1,4 +1,4 @@
--- Calls on a run, one behind the other.
+-- Calls on a run, one after another.
 use Rattle.std.proofs.Common.{◌≡◌, ◌<◌, ℕ, suc, arith, refl, ap, subst, ◌∙◌, append_assoc, true, eqb, List, [], ◌∷◌, ◌++◌, map, drop, Option, Result, inl, inr, ◌⊎◌, Ok, Err}
 use Rattle.std.specs.Prelude.{⊤}
 use Rattle.std.proofs.lemmas.Bool.Decides.{nat_tests}
@@ -41,7 +41,7 @@ module _ {V R : Type 0} {kind : Ghosts V R} where
       let same : record { refusal = why; round = round } ≡ stop = grind arith in
       subst (λ (q : State × Answer). unless_stopped (stopped round q.1) (run_through (setting a) m q.0 more) ≡ Err stop) stepped (ap (λ s. Err s) same)
 
-  -- calls behind others that are performed, and behind some of which one is refused
+  -- calls after others that are performed, and after some of which one is refused
   pub goes_then : (m : Meaning) (first then_these : List Asked) (a b c : Run V R kind) → GoesOn m first a b → Keeps a b → GoesOn m then_these b c → GoesOn m (first ++ then_these) a c
   goes_then m first then_these a b c p keeps q more =
       rw (append_assoc first then_these more) (p (then_these ++ more) ∙ subst (λ x. run_through x m (state b) (then_these ++ more) ≡ run_through x m (state c) more) keeps.setting_stays (q more))

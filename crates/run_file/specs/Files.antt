@@ -10,10 +10,10 @@ use Rattle.run_file.specs.declared.headers.Header.{Header}
 abbrev pub byte : List ℕ → ℕ → ℕ
 byte bytes i = slice_index bytes i
 
-abbrev pub word : List ℕ → ℕ → ℕ
-word bytes i = byte bytes i + byte bytes (i + 1) * 256
+abbrev pub number_at : List ℕ → ℕ → ℕ
+number_at bytes i = byte bytes i + byte bytes (i + 1) * 256
 
--- the first so many pieces of a width, one behind the other
+-- the first so many pieces of a width, one after another
 abbrev pub pieces : (width count : ℕ) → List ℕ → List (List ℕ)
 pieces width zero bytes = []
 pieces width (suc count) bytes = take width bytes ∷ pieces width count (drop width bytes)
@@ -36,15 +36,15 @@ module _ (width : ℕ) (h : Header) where
   abbrev pub laid_out : List ℕ → Bool
   laid_out bytes = h.proposals_at == proposals_start && h.sets_at == sets_start && h.forgeries_at == lines_start && length bytes == file_end
 
-  -- the proposals, the initial set, the sets of the rounds, and the forgery lines
+  -- the proposals, the initial set, the sets of the rounds, and the forgery lines, each from the byte where it starts
   abbrev pub proposals : List ℕ → List (List ℕ)
   proposals bytes = pieces width h.n (drop proposals_start bytes)
 
   abbrev pub initial_set : List ℕ → ℕ
-  initial_set bytes = word bytes sets_start
+  initial_set bytes = number_at bytes sets_start
 
   abbrev pub round_sets : List ℕ → List ℕ
-  round_sets bytes = map (λ two. word two 0) (pieces 2 h.rounds (drop (sets_start + 2) bytes))
+  round_sets bytes = map (λ two. number_at two 0) (pieces 2 h.rounds (drop (sets_start + 2) bytes))
 
   abbrev pub forgery_lines : List ℕ → List (List ℕ)
   forgery_lines bytes = pieces (6 + width) h.forgeries (drop lines_start bytes)

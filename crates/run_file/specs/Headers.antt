@@ -10,7 +10,7 @@ use Rattle.models.specs.Stamps.{stamped}
 use Rattle.run_file.specs.declared.headers.ValueKind.{ValueKind}
 use Rattle.run_file.specs.declared.headers.ValueKind.TheVariants.{Setpoint, Sheet}
 use Rattle.run_file.specs.declared.headers.Header.{Header}
-use Rattle.run_file.specs.Files.{byte, word}
+use Rattle.run_file.specs.Files.{byte, number_at}
 
 -- the code of each kind
 abbrev pub kind_code : ValueKind → ℕ
@@ -32,7 +32,7 @@ stamps_with zero = Some false
 stamps_with (suc zero) = Some true
 stamps_with (suc (suc code)) = None
 
--- the header with these codes, and the numbers that stand in the bytes behind them
+-- the header with these codes, and with the numbers that stand in the bytes after them
 abbrev pub fields : List ℕ → ValueKind → Standard → Bool → Header
 fields bytes kind model stamps = record {
   kind = kind;
@@ -40,11 +40,11 @@ fields bytes kind model stamps = record {
   stamps = stamps;
   n = byte bytes 3;
   t = byte bytes 4;
-  rounds = word bytes 6;
-  forgeries = word bytes 8;
-  proposals_at = word bytes 10;
-  sets_at = word bytes 12;
-  forgeries_at = word bytes 14;
+  rounds = number_at bytes 6;
+  forgeries = number_at bytes 8;
+  proposals_at = number_at bytes 10;
+  sets_at = number_at bytes 12;
+  forgeries_at = number_at bytes 14;
 }
 
 abbrev with_codes : List ℕ → Option ValueKind → Option Standard → Option Bool → Option Header

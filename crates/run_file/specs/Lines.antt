@@ -4,10 +4,10 @@ use Rattle.std.specs.List.{list_all}
 use Rattle.std.specs.Result.{result_err}
 use Rattle.values.specs.declared.refusals.Refusal.{Refusal}
 use Rattle.values.specs.declared.refusals.Refusal.TheVariants.{ForgeryLine}
-use Rattle.values.specs.Rules.{Rules, words, reads}
+use Rattle.values.specs.Rules.{Rules, numbers, reads}
 use Rattle.values.specs.Cells.{Held}
 use Rattle.protocol.specs.Machine.{◌when◌, ◌then◌}
-use Rattle.run_file.specs.Files.{byte, word}
+use Rattle.run_file.specs.Files.{byte, number_at}
 
 pub record Line : Type 0 where
   pub round : ℕ
@@ -22,7 +22,7 @@ pub record Line : Type 0 where
 -- the line in 6 bytes and those of a value
 abbrev pub line : List ℕ → Line
 line bytes = record {
-  round = word bytes 0;
+  round = number_at bytes 0;
   sender = byte bytes 2;
   receiver = byte bytes 3;
   column = byte bytes 4;
@@ -33,12 +33,12 @@ line bytes = record {
 abbrev pub all_zero : List ℕ → Bool
 all_zero bytes = list_all (λ b. b == 0) bytes
 
--- a line is faulty if its round is not below the number of rounds, or is lower than the last line's, if its tag is above 1,
--- or if its tag is 0 and a byte of its value is not 0
+-- a line is faulty where its round is none of the file's or comes before the last line's, where its tag is neither 0 nor 1, and where it
+-- forges an empty cell (tag 0) but its value has a byte other than 0
 abbrev pub faulty : (rounds last : ℕ) → Line → Bool
 faulty rounds last x = nat_le rounds x.round || nat_lt x.round last || nat_lt 1 x.tag || (x.tag == 0 && not (all_zero x.value))
 
--- why a line is refused, if it is; the value is looked at where the tag is 1
+-- why a line is refused, if it is; its value is read only where the tag is 1
 abbrev pub line_refusal : Rules → (rounds last : ℕ) → Line → Option Refusal
 line_refusal k rounds last x = ForgeryLine when faulty rounds last x then (if x.tag == 1 then result_err (reads k x.value) else None)
 
@@ -49,4 +49,4 @@ lines_refusal k rounds last (x ∷ rest) = line_refusal k rounds last x then lin
 
 -- the cell that a line forges
 abbrev pub cell_of : Line → Held
-cell_of x = if x.tag == 0 then None else Some (words x.value)
+cell_of x = if x.tag == 0 then None else Some (numbers x.value)

@@ -4,7 +4,7 @@ use Rattle.std.specs.Option.{option_map}
 use Rattle.values.specs.declared.refusals.Refusal.{Refusal}
 use Rattle.values.specs.declared.refusals.Refusal.TheVariants.{Layout, TextRoom}
 use Rattle.values.specs.Refusals.{number_of}
-use Rattle.values.specs.Rules.{Rules, words}
+use Rattle.values.specs.Rules.{Rules, numbers}
 use Rattle.values.specs.Setpoints.{setpoint_rules}
 use Rattle.values.specs.Sheets.{sheet_rules}
 use Rattle.models.specs.Laws.{Meaning}
@@ -39,7 +39,7 @@ module _ (k : Rules) (h : Header) (bytes : List ℕ) where
       then lines_refusal k h.rounds 0 (map line (forgery_lines k.width h bytes))
 
   abbrev pub open_of : Call
-  open_of = Open h.n h.t (map words (proposals k.width h bytes)) (initial_set k.width h bytes)
+  open_of = Open h.n h.t (map numbers (proposals k.width h bytes)) (initial_set k.width h bytes)
 
   -- the calls in their order
   abbrev pub calls_of : List Asked
@@ -53,7 +53,7 @@ size_unless (Some why) s = 0
 abbrev pub setting_of : Rules → (cells : ℕ) → Setting
 setting_of k cells = record { cells = cells; fallback = k.fallback }
 
--- what becomes of it under a model, with so many cells handed over
+-- what becomes of it under a model, with a store of so many cells
 module _ (k : Rules) (m : Meaning) (cells : ℕ) (h : Header) (bytes : List ℕ) where
   -- the state that its calls leave, if neither the file nor one of them is refused
   unfoldable pub outcome : Result State Stop
@@ -87,7 +87,7 @@ report_of lists (Err why) = refused why
 abbrev pub report_under : Rules → Meaning → (cells : ℕ) → Header → List ℕ → Report
 report_under k m cells h bytes = report_of (listing k m cells h) (outcome k m cells h bytes)
 
--- how many cells there are for each kind
+-- how many cells the store for each kind has
 pub record Cells : Type 0 where
   pub setpoints : ℕ
   pub sheets : ℕ
@@ -107,15 +107,15 @@ abbrev pub with_header : Cells → List ℕ → Result Header Refusal → Report
 with_header c bytes (Ok h) = of_kind c bytes h h.kind
 with_header c bytes (Err why) = refused (stop why)
 
--- a text buffer has so many bytes at least
+-- how many bytes of room a text needs at least
 abbrev pub least_room : ℕ
 least_room = 512
 
--- a text buffer that is too small takes no text
+-- too little room takes no text
 abbrev pub no_room : Report
 no_room = record { text = []; stop = Some (stop TextRoom) }
 
--- the listing of a file's bytes, where the text buffer has so many bytes
+-- the listing of a file's bytes, where the room for the text has so many bytes
 abbrev pub listing_of : (room : ℕ) → Cells → List ℕ → Report
 listing_of room c bytes = if nat_lt room least_room then no_room else with_header c bytes (header_of bytes)
 

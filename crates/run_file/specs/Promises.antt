@@ -1,15 +1,15 @@
 -- What is promised of a listing: of what was lent, and by its text and the bytes of the file alone. Assumes nothing.
 use Rattle.std.specs.Prelude.{◌≡◌, ◌⊎◌, ℕ, ◌+◌, ◌*◌, ◌<◌, ◌≤◌, true, false, List, [], ◌∷◌, ◌++◌, length, take, drop, Ok, codes, decimal, ◌==◌, slice_index_or}
 use Rattle.std.specs.List.{slice_split}
-use Rattle.values.specs.Rules.{Rules, words, text}
+use Rattle.values.specs.Rules.{Rules, numbers, text}
 use Rattle.models.specs.declared.classes.Class.TheVariants.{Honest}
 use Rattle.models.specs.Sets.{has}
 use Rattle.run_file.specs.declared.headers.Header.{Header}
-use Rattle.run_file.specs.Files.{word}
+use Rattle.run_file.specs.Files.{number_at}
 use Rattle.run_file.specs.Headers.{header_of, model_of}
 use Rattle.run_file.specs.Listings.{rules_of}
 
--- the text stands at the front of the buffer, and the bytes past it stay
+-- the text stands at the front of the room, and the bytes past it stay
 abbrev pub IsAtFront : (words : List ℕ) → (len : ℕ) → (before after : List ℕ) → Type 0
 IsAtFront words len before after = (len ≡ length words) × (after ≡ words ++ drop (length words) before)
 
@@ -24,16 +24,16 @@ pub record HasLines (listed : List ℕ) (lines : List (List ℕ)) : Type 0 where
 
 -- the initial set, and the set of round r: the sets have two bytes each, and the initial one comes first
 abbrev pub first_set : Header → List ℕ → ℕ
-first_set h bytes = word bytes h.sets_at
+first_set h bytes = number_at bytes h.sets_at
 
 abbrev pub set_in : Header → List ℕ → (r : ℕ) → ℕ
-set_in h bytes r = word bytes (h.sets_at + 2 * (r + 1))
+set_in h bytes r = number_at bytes (h.sets_at + 2 * (r + 1))
 
 -- the set of the last round, or the initial one where there is no round
 abbrev pub last_set : Header → List ℕ → ℕ
-last_set h bytes = word bytes (h.sets_at + 2 * h.rounds)
+last_set h bytes = number_at bytes (h.sets_at + 2 * h.rounds)
 
--- controller c is unseated in rounds 3c + 1 and 3c + 2
+-- controller c is a clean coordinator: unseated where its own phase collects, in round 3c + 1, and where it decides, in round 3c + 2
 pub record CleanIn (h : Header) (bytes : List ℕ) (c : ℕ) : Type 0 where
   pub controller : c < h.n
   pub collecting : has (set_in h bytes (3 * c + 1)) c ≡ false
@@ -46,7 +46,7 @@ pub record HonestIn (h : Header) (bytes : List ℕ) (i : ℕ) : Type 0 where
 
 -- what controller i proposes: the proposals have the width of a value each
 abbrev pub proposal_in : Rules → Header → List ℕ → (i : ℕ) → List ℕ
-proposal_in k h bytes i = words (take k.width (drop (h.proposals_at + k.width * i) bytes))
+proposal_in k h bytes i = numbers (take k.width (drop (h.proposals_at + k.width * i) bytes))
 
 -- a controller's line
 abbrev pub says : (controller : ℕ) → List ℕ → List ℕ

@@ -7,7 +7,7 @@ use Rattle.protocol.specs.Machine.{Setting, State, Decision, Answer, Done, Decid
 use Rattle.run_file.specs.declared.headers.Header.{Header}
 use Rattle.run_file.specs.declared.stops.Stop.{Stop}
 
--- words and the line feed
+-- a text and the line feed that ends it
 abbrev pub line_with : List ℕ → List ℕ
 line_with words = words ++ (10 ∷ [])
 

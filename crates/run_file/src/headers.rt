@@ -1,4 +1,4 @@
-use crate::words::word;
+use crate::numbers::number_at;
 use models::Standard;
 use values::Refusal;
 
@@ -20,9 +20,9 @@ pub struct Header {
     pub model: Standard,
     /// Whether there are stamps: byte 2.
     pub stamps: bool,
-    /// How many controllers there are: byte 3.
+    /// How many controllers the block has: byte 3.
     pub n: u8,
-    /// How many controllers are seated at one time at most: byte 4.
+    /// How many of them are seated at one time at most: byte 4.
     pub t: u8,
     /// How many rounds there are: bytes 6 and 7.
     pub rounds: u16,
@@ -36,10 +36,10 @@ pub struct Header {
     pub forgeries_at: u16,
 }
 
-// A run file has so many bytes at least.
+// How many bytes a run file has at least.
 const LEAST_BYTES: usize = 16;
 
-/// A run file has no more bytes.
+/// How many bytes a run file has at most; `list` refuses a longer one with `FileSize`.
 pub const MOST_BYTES: usize = 65535;
 
 impl ValueKind {
@@ -89,11 +89,11 @@ impl Header {
             stamps,
             n: file[3],
             t: file[4],
-            rounds: word(file, 6),
-            forgeries: word(file, 8),
-            proposals_at: word(file, 10),
-            sets_at: word(file, 12),
-            forgeries_at: word(file, 14),
+            rounds: number_at(file, 6),
+            forgeries: number_at(file, 8),
+            proposals_at: number_at(file, 10),
+            sets_at: number_at(file, 12),
+            forgeries_at: number_at(file, 14),
         })
     }
 

@@ -3,11 +3,11 @@ ghost use Rattle.values.specs.Refusals.{TellsWhy};
 ghost use Rattle.run_file.specs.Lines.{all_zero, line, line_refusal};
 ghost use Rattle.run_file.specs.InCode.{IsLine};
 
-use crate::words::word;
+use crate::numbers::number_at;
 use run::Place;
 use values::{Cell, Kind, Refusal};
 
-// The bytes of a line before its value.
+// How many bytes a line has before its value.
 pub(crate) const LINE_HEAD: usize = 6;
 
 /// A forgery line of a run file, as it is performed.
@@ -22,13 +22,13 @@ pub(crate) struct Line<K: Kind> {
 }
 
 impl<K: Kind> Line<K> {
-    /// The line in these bytes, of a file with so many rounds and after a line of the round `last`, or why it is refused.
+    /// The line in these bytes, or why it is refused: in a file of so many rounds, after a line of the round `last`.
     pub(crate) fn read(bytes: &[u8], rounds: u16, last: u16) -> Result<Line<K>, Refusal>
         requires { 6 ≤ length bytes.now }
         ensures refused { TellsWhy (line_refusal K.rules rounds last (line bytes.now)) result }
         ensures read { IfOk result (λ x. IsLine K.rules K.plain x (line bytes.now)) }
     {
-        let round = word(bytes, 0);
+        let round = number_at(bytes, 0);
         if round >= rounds || round < last {
             return Err(Refusal::ForgeryLine);
         }

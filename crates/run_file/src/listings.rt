@@ -15,17 +15,17 @@ use protocol::decisions_agree;
 use run::Run;
 use values::{Buffer, Cell, Kind, Refusal, Setpoint, Shares, Sheet};
 
-/// What was listed.
+/// What `list` returns.
 #[derive(Clone, Copy, PartialEq, Eq, Debug)]
 pub struct Listing {
-    /// How many bytes the text has.
+    /// How many bytes of text were written.
     pub len: usize,
-    /// Why the file is refused, if it is.
+    /// Why it refused, if it did: by the file, by a call that the file asks for, or by too little room.
     pub stop: Option<Stop>,
 }
 
 impl Listing {
-    /// The number of the refusal, 0 if there is none.
+    /// The number of the refusal; 0 if there is none.
     pub fn number(&self) -> u8
         ensures told { result ≡ number_told self.now.stop }
         ensures none { (result ≡ 0) ↔ (self.now.stop ≡ None) }
@@ -34,11 +34,11 @@ impl Listing {
     }
 }
 
-/// A text buffer has so many bytes at least; no listing is longer.
+/// How many bytes of room `list` needs for its text; no listing is longer.
 pub const LEAST_ROOM: usize = 512;
 
 // Lists a file under a model: checks its values and lines, performs the run that it tells, and writes what the
-// controllers hold then. Nothing is written of a file that is refused.
+// controllers hold then. If the file is refused nothing is written.
 fn list_under_model<K: Kind, M: Model>(
     file: &[u8],
     header: &Header,
@@ -72,7 +72,7 @@ fn list_under_named_model<K: Kind>(
     ensures becomes { BecomesVote K.rules (length cells.old) header.now file.now result out.old out.new }
     ensures used { StaysPast (cells_used K.rules (model_of header.now) (length cells.old) header.now file.now) cells.old cells.new }
 {
-    // Agreement, and that the model is lawful: the theorems that the law of the listing rests on. Their calls do nothing.
+    // The law of the listing rests on two theorems: agreement, and that the model is lawful. Their calls do nothing.
     decisions_agree();
     if header.stamps {
         let model = Stamped(header.model);
@@ -108,9 +108,15 @@ fn list_either_kind(
     }
 }
 
-/// Lists a run file: performs the vote that it tells, and writes what each controller of the block then holds, or one
-/// line if the file is refused. The cells are lent for the run, and the text goes into the first bytes of `text`; a
-/// `text` of under 512 bytes is refused, and nothing is written.
+/// Lists a run file: performs the vote that it tells, and writes a first line and one for each controller of the block,
+/// with the decision that it then holds; or a single line, with the number of the refusal, if the file is refused.
+/// docs/FORMAT.md says when it is refused, and how the text looks.
+///
+/// A store is lent for each kind of values. The run uses the one of the file's kind, and writes only those cells of it
+/// that the block needs; fewer than these are refused with `StoreSize`, and `run::MOST_CELLS` are always enough.
+///
+/// The text goes to the front of `text`, and the bytes past it stay. If `text` has under `LEAST_ROOM` bytes nothing is
+/// written: the refusal is `TextRoom`, and the length 0.
 pub fn list(
     file: &[u8],
     setpoints: &mut [Cell<u16>],

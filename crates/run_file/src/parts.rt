@@ -2,17 +2,17 @@ ghost use Rattle.std.specs.Prelude.{◌≤◌};
 
 use crate::headers::Header;
 use crate::lines::LINE_HEAD;
+use crate::numbers::number_at;
 use crate::pieces::Pieces;
-use crate::words::word;
 use models::Set;
 use values::Refusal;
 
-// Where the proposals start, and the bytes of a set.
+// The byte at which the proposals start, and how many bytes a set has.
 const PROPOSALS_START: usize = 16;
 
 const SET_WIDTH: usize = 2;
 
-/// The parts of a run file behind its header.
+/// The parts of a run file after its header.
 #[derive(Clone, Copy)]
 pub(crate) struct Parts<'f> {
     /// The bytes of each controller's proposal.
@@ -33,7 +33,7 @@ impl<'f> Parts<'f> {
     ghost use Rattle.values.specs.Refusals.{TellsWhy};
     ghost use Rattle.run_file.specs.InCode.{IsParted};
 
-    /// The parts of a file, if its offsets and its length are what the counts give for values of a width.
+    /// The parts of a file, if its offsets and its length are what its counts and the width of a value give.
     pub(crate) fn of(file: &'f [u8], header: &Header, width: usize) -> Result<Parts<'f>, Refusal>
         requires { width ≤ 16 }
         ensures refused { TellsWhy (Layout when not (laid_out width header.now file.now)) result }
@@ -54,7 +54,7 @@ impl<'f> Parts<'f> {
         }
         Ok(Parts {
             proposals: Pieces::over(n, width, &file[PROPOSALS_START..]),
-            initial: Set(word(file, sets_start)),
+            initial: Set(number_at(file, sets_start)),
             sets: Pieces::over(rounds, SET_WIDTH, &file[sets_start + SET_WIDTH..]),
             lines: Pieces::over(forgeries, LINE_HEAD + width, &file[lines_start..]),
         })

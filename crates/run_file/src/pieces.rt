@@ -1,6 +1,6 @@
 ghost use Rattle.std.specs.Prelude.{◌≤◌, ◌*◌, length};
 
-/// Pieces of one width, one behind the other.
+/// Pieces of one width, one after another.
 #[derive(Clone, Copy)]
 pub(crate) struct Pieces<'f> {
     count: usize,
@@ -27,7 +27,7 @@ impl<'f> Pieces<'f> {
         }
     }
 
-    /// The first piece, and those behind it.
+    /// The first piece and those after it, if there is one.
     pub(crate) fn split_first(self) -> Option<(&'f [u8], Pieces<'f>)>
         ensures { MatchOption result ((pieces_of self.entry ≡ []) × (self.entry.count ≡ 0)) (λ r. IsFirst self.entry r.0.now r.1) }
     {

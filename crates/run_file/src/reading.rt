@@ -11,7 +11,8 @@ use crate::pieces::Pieces;
 use models::MOST_CONTROLLERS;
 use values::{Kind, Refusal};
 
-// Reads the proposals into rows, or tells why they are refused. Of a larger block the first 16 will do, since no open takes it.
+// Reads the proposals into values' rows, or returns why they are refused. All are read, but only the first 16 are kept:
+// no open takes a larger block.
 fn read_proposals<K: Kind>(
     proposals: Pieces,
     rows: &mut [K::Row; MOST_CONTROLLERS],
@@ -32,7 +33,7 @@ fn read_proposals<K: Kind>(
     Ok(())
 }
 
-// Reads all forgery lines of a file with so many rounds, or tells why they are refused.
+// Reads all forgery lines of a file with so many rounds, and returns why they are refused, if they are.
 fn check_lines<K: Kind>(lines: Pieces, rounds: u16) -> Result<(), Refusal>
     requires { 6 ≤ lines.width }
     ensures { TellsWhy (lines_refusal K.rules rounds 0 (lines_in lines.entry)) result }
@@ -46,7 +47,8 @@ fn check_lines<K: Kind>(lines: Pieces, rounds: u16) -> Result<(), Refusal>
     Ok(())
 }
 
-/// The parts of a file, with its proposals read into rows, if neither the layout nor a value or line is refused.
+/// The parts of a file, with its proposals read into values' rows; or the first refusal, by the layout, a proposal or a
+/// line.
 pub(crate) fn read_parts<'f, K: Kind>(
     file: &'f [u8],
     header: &Header,

@@ -4,13 +4,13 @@ use std::error::Error;
 use std::fmt;
 use values::Refusal;
 
-/// Why nothing more is done with a run file. Displays as one line for people, as `round 3: the model does not allow the move`.
-// A close has its round too, though none is refused here: it comes where a round is seated.
+/// Why nothing more is done with a run file. Displays as one line for people, with the words of the refusal:
+/// `round 3: the model does not allow the move`.
 #[derive(Clone, Copy, PartialEq, Eq, Debug)]
 pub struct Stop {
-    /// Why the file was refused, or a call that it asks for.
+    /// Why the file is refused, or a call that it asks for.
     pub refusal: Refusal,
-    /// The round of that call, if it is a round's.
+    /// The round that the refused call belongs to; an open belongs to none.
     pub round: Option<u16>,
 }
 
@@ -25,7 +25,7 @@ impl From<Refusal> for Stop {
     }
 }
 
-// What is printed is not promised, since no definition has the words: tests hold it.
+// Tests hold what is printed: no definition has the words, so no contract can promise them.
 impl fmt::Display for Stop {
     fn fmt<W: fmt::Write>(&self, f: &mut fmt::Formatter<W>) -> fmt::Result {
         if let Some(round) = self.round {

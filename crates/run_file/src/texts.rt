@@ -26,7 +26,7 @@ fn write_decision<K: Kind>(decision: Result<Cell<K::Row>, Refusal>, out: &mut Bu
     match decision {
         Ok(Some(row)) => K::value(&row).write(out),
         Ok(None) => out.put_str("none"),
-        // A decision of a controller that the block has is refused only if it was seated last.
+        // A controller of the block is refused its decision only if it was seated last.
         Err(_) => out.put_str("upset"),
     }
 }

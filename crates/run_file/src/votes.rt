@@ -9,15 +9,15 @@ ghost use Rattle.run_file.specs.InCode.{stop_at, HasRows, lines_in, Checked, Are
 
 use crate::headers::Header;
 use crate::lines::Line;
+use crate::numbers::number_at;
 use crate::parts::Parts;
 use crate::pieces::Pieces;
 use crate::stops::Stop;
-use crate::words::word;
 use models::{MOST_CONTROLLERS, Model, Set};
 use run::{Opening, Run};
 use values::{Kind, Refusal};
 
-// What a call of a round answered, with the round where it was refused.
+// What a call of a round answers, with the round where it is refused.
 fn in_round(answer: Result<(), Refusal>, round: u16) -> Result<(), Stop>
     ensures { result ≡ stop_at (Some round) answer }
 {
@@ -27,7 +27,7 @@ fn in_round(answer: Result<(), Refusal>, round: u16) -> Result<(), Stop>
     })
 }
 
-// The first line, if it is of this round, and those behind it. All lines were checked, so none is refused here.
+// The first line and those after it, if it is of this round. All lines were checked, so none is refused here.
 fn next_of_round<'f, K: Kind>(
     lines: Pieces<'f>,
     rounds: u16,
@@ -45,7 +45,7 @@ fn next_of_round<'f, K: Kind>(
     }
 }
 
-// Forges the lines of a round, which stand before those of later rounds; what is left are those.
+// Forges the lines of a round, which stand before those of later rounds, and returns the lines of later rounds.
 fn forge_lines<'f, K: Kind>(
     run: &mut Run<K>,
     rounds: u16,
@@ -66,7 +66,7 @@ fn forge_lines<'f, K: Kind>(
     Ok(rest)
 }
 
-// Seats a round's set, forges the round's lines and closes the round; what is left are the lines of later rounds.
+// Seats a round's set, forges the round's lines and closes the round; returns the lines of later rounds.
 fn perform_round<'f, K: Kind, M: Model>(
     run: &mut Run<K>,
     model: &M,
@@ -106,14 +106,15 @@ fn perform_rounds<K: Kind, M: Model>(
     let mut sets = sets;
     let mut round = 0;
     while let Some((set, after)) = sets.split_first() {
-        lines = perform_round(run, model, rounds, round, Set(word(set, 0)), lines)?;
+        lines = perform_round(run, model, rounds, round, Set(number_at(set, 0)), lines)?;
         sets = after;
         round += 1;
     }
     Ok(())
 }
 
-// Opens the block of a run file. No block has more than 16 controllers, so 16 proposals will do to open it or have it refused.
+// Opens the block of a run file. At most 16 proposals are handed over: a larger block is refused for its size, whatever
+// it proposes.
 fn open_block<K: Kind, M: Model>(
     run: &mut Run<K>,
     model: &M,

@@ -13,14 +13,14 @@ use Rattle.models.specs.Laws.{Meaning, Lawful}
 use Rattle.models.specs.Sets.{has}
 use Rattle.protocol.specs.Machine.{Idle, Call, Open, Seat, Close, Decision, Answer, Done, Decided}
 use Rattle.protocol.specs.Transcripts.{Transcript, Entry, Opening, Law, Agrees, Clean, Filled, Proposed, opening_in, sets_in, closes_in, cell_in, opening, sets, closes, answered}
-use Rattle.protocol.proofs.Joined.{sets_joined, closes_joined, opening_joined, answered_behind, closes_behind, open_step}
+use Rattle.protocol.proofs.Joined.{sets_joined, closes_joined, opening_joined, answered_later, closes_later, open_step}
 use Rattle.run.specs.declared.run.Run.{Run}
 use Rattle.run.specs.Runs.{setting, state, Performs}
 use Rattle.run.specs.Standing.{entry, Stands, LawWith}
 use Rattle.run.proofs.Chains.{stays, performed, joined, begins, goes_on, goes_further}
 use Rattle.trials.specs.Callers.{Spared, Concludes, RunsRounds}
 
--- a transcript that answers no decision, behind another that does not
+-- a transcript that answers no decision, after another that does not
 unasked : (a b : Transcript) → ((i : ℕ) → answered a i ≡ None) → ((i : ℕ) → answered b i ≡ None) → (i : ℕ) → answered (a ++ b) i ≡ None
 unasked [] b a_none b_none i = b_none i
 unasked (e ∷ a) b a_none b_none zero = a_none zero
@@ -63,7 +63,7 @@ module _ {V R : Type 0} {kind : Ghosts V R} (m : Meaning) where
   closed_round set before seated after (Ok x) p q = then_rounds (set ∷ []) [] 0 1 before seated after p (one_call Close Done [] 1 seated after refl refl refl refl q)
   closed_round set before seated after (Err why) p q = tt
 
-  -- a whole round, behind others
+  -- a whole round, after others
   pub one_round : (seated : List ℕ) (closed set : ℕ) (first before mid after : Run V R kind) → RunsRounds m seated closed first before
       → Performs m (Seat set) Done before mid → Performs m Close Done mid after → RunsRounds m (seated ++ set ∷ []) (closed + 1) first after
   one_round seated closed set first before mid after p q r =
@@ -119,7 +119,7 @@ module _ {V R : Type 0} {kind : Ghosts V R} (m : Meaning) (o : Opening) (rows : 
   abbrev back : Transcript
   back = d1 ∷ (two.log ++ d2 ∷ [])
 
-  -- as the calls were made, one behind the other
+  -- as the calls were made, one after another
   stands : Stands (setting run) m ((front ++ d1 ∷ []) ++ two.log) end
   stands =
       goes_further mid end
@@ -144,16 +144,16 @@ module _ {V R : Type 0} {kind : Ghosts V R} (m : Meaning) (o : Opening) (rows : 
   second_at = length front + suc (length two.log + 0)
 
   first_told : answered (front ++ back) first_at ≡ Some (shows k plain a)
-  first_told = answered_behind front back 0
+  first_told = answered_later front back 0
 
   second_told : answered (front ++ back) second_at ≡ Some (shows k plain b)
-  second_told = answered_behind front back (suc (length two.log + 0)) ∙ answered_behind two.log (d2 ∷ []) 0
+  second_told = answered_later front back (suc (length two.log + 0)) ∙ answered_later two.log (d2 ∷ []) 0
 
   first_closes : closes (take first_at (front ++ back)) ≡ length seated1
-  first_closes = omega (arith, closes_behind front back 0, one.closes_are)
+  first_closes = omega (arith, closes_later front back 0, one.closes_are)
 
   second_closes : closes (take second_at (front ++ back)) ≡ length seated1 + length seated2
-  second_closes = omega (arith, closes_behind front back (suc (length two.log + 0)), closes_behind two.log (d2 ∷ []) 0, one.closes_are, two.closes_are)
+  second_closes = omega (arith, closes_later front back (suc (length two.log + 0)), closes_later two.log (d2 ∷ []) 0, one.closes_are, two.closes_are)
 
   clean : (c : ℕ) → Spared (seated1 ++ seated2) o.n c → Clean (front ++ back) o c
   clean c spared = record {

@@ -1,4 +1,4 @@
--- What the law of a list of calls says of the answers that lie in memory.
+-- What the law of a list of calls says of the answers in their places.
 use Rattle.std.proofs.Common.{ℕ, List, Some, Result}
 use Rattle.values.specs.Rules.{Rules}
 use Rattle.values.specs.declared.refusals.Refusal.{Refusal}

@@ -1,4 +1,4 @@
--- What callers of a run conclude, in their own words. Assumes nothing.
+-- What callers of a run conclude, by what they asked and were answered. Assumes nothing.
 use Rattle.std.specs.Prelude.{◌≡◌, ℕ, ◌+◌, ◌*◌, ◌<◌, ◌≤◌, false, List, ◌++◌, map, length, Some, None, Option, IsSome, All, slice_index}
 use Rattle.values.specs.Rules.{Rules, means}
 use Rattle.values.specs.declared.kinds.Kind.{Ghosts}
@@ -11,7 +11,7 @@ use Rattle.run.specs.declared.run.Run.{Run}
 use Rattle.run.specs.Standing.{Continues}
 use Rattle.trials.specs.declared.callers.rounds.Plan.{Plan}
 
--- controller c of a block of n is unseated in rounds 3c + 1 and 3c + 2, by the sets of the rounds
+-- by the sets of the rounds, controller c of a block of n is a clean coordinator: it is unseated where its own phase collects and decides
 pub record Spared (sets : List ℕ) (n c : ℕ) : Type 0 where
   pub controller : c < n
   pub collecting : has (slice_index sets (3 * c + 1)) c ≡ false
@@ -32,20 +32,20 @@ Holds {R = R} k plain w cell = (row : R) → cell ≡ Some row → means k plain
 -- What a caller concludes who opened a block of n with these proposals, ran rounds with these sets, and asked two controllers: one after the first so many
 -- rounds, and one after all.
 pub record Concludes {R : Type 0} (k : Rules) (plain : R → List ℕ) (n : ℕ) (proposals : List R) (sets : List ℕ) (earlier : ℕ) (first second : Option R) : Type 0 where
-  -- with a clean coordinator they answer one value, if both answer one
+  -- with a clean coordinator their decisions are one value, if both are filled
   pub equal : Agree k plain sets n first second
-  -- and after 3n rounds the second answers one
+  -- and after 3n rounds the second is filled
   pub filled : (c : ℕ) → Spared sets n c → 3 * n ≤ length sets → IsSome second
-  -- before that many the first answers none
+  -- before that many the first is empty
   pub early : earlier < 3 * n → first ≡ None
-  -- where all proposed w, they answer no other value
+  -- where all proposed w, neither is another value
   pub valid : (w : List ℕ) → All (λ row. means k plain row ≡ w) proposals → Holds k plain w first × Holds k plain w second
 
--- the same where the first question came after the rounds of earlier sets, and the second after those of later ones too
+-- the same where the first was asked after the rounds of earlier sets, and the second after those of later ones too
 abbrev pub AskedTwice : {R : Type 0} → Rules → (R → List ℕ) → Opening R → (earlier later : List Set) → (Option R × Option R) → Type 0
 AskedTwice k plain o earlier later both = Concludes k plain o.n o.proposals.now (map (λ set. set.0) (earlier ++ later)) (length earlier) both.0 both.1
 
--- What a caller concludes who ran a vote by plans and then asked two controllers: with a clean coordinator they answer one value, if both answer one.
+-- What a caller concludes who ran a vote by plans and then asked two controllers: with a clean coordinator their decisions are one value, if both are filled.
 abbrev pub DecidedAlike : {R : Type 0} → Rules → (R → List ℕ) → Opening R → List (Plan R) → (Option R × Option R) → Type 0
 DecidedAlike k plain o plans both = Agree k plain (map (λ plan. plan.set.0) plans) o.n both.0 both.1
 

@@ -25,6 +25,6 @@ pub record FirstRound (x : Setting) (n t : ℕ) (proposals : List (List ℕ)) (i
   pub waits : after ≡ Waiting next
   pub made : let b = block n t proposals initial in MakesAfter process1 Algorithm1 CuredUnaware x b (seats b set) next
 
--- between these two moments the run was opened with these rows, by what they mean, and ran that round with this set
+-- between these two moments the run was opened with these values' rows, by what they mean, and ran that round with this set
 abbrev pub RunsFirstRound : {V R : Type 0} {kind : Ghosts V R} → Opening R → Set → (before after : Run V R kind) → Type 0
 RunsFirstRound {kind = kind} o set before after = FirstRound (setting before) o.n o.t (map (means kind.rules kind.plain) o.proposals.now) o.initial.0 set.0 (state after)

@@ -10,7 +10,7 @@ use Rattle.run_file.specs.Promises.{CleanIn, last_set, says}
 abbrev pub line_of : List ℕ → ℕ → List ℕ
 line_of words i = slice_index_or (slice_split (λ b. b == 10) words) (i + 1) []
 
--- a controller of the block that is not upset at the end
+-- a controller of the block that is not in the last set of the file
 abbrev pub Stood : Header → List ℕ → ℕ → Type 0
 Stood h bytes i = (i < h.n) × (has (last_set h bytes) i ≡ false)
 

@@ -22,6 +22,6 @@ module _ {R : Type 0} (k : Rules) (plain : R → List ℕ) (count : ℕ) (calls 
   AllSame = (o : Opening) → opening log ≡ Some o → (c : ℕ) → Clean log o c
       → (i j : ℕ) (x y : R) → DecidedAt i x → DecidedAt j y → means k plain x ≡ means k plain y
 
-  -- if all who are honest in round 0 proposed w, every filled decision is w
+  -- where everybody who is honest in round 0 proposed w, no decision is filled with another value
   abbrev pub AllProposed : Meaning → Type 0
   AllProposed m = (o : Opening) → opening log ≡ Some o → (w : List ℕ) → HonestProposed m log o w → (i : ℕ) (x : R) → DecidedAt i x → means k plain x ≡ w

@@ -6,7 +6,7 @@ use Rattle.models.specs.Standards.{standard}
 
 abbrev pub rising : Meaning
 rising = record {
-  allowed = λ before now t. nat_le before now;
+  allowed = λ before after t. nat_le before after;
   class = (standard Unaware).class;
   counts = (standard Unaware).counts;
 }

@@ -1,4 +1,4 @@
--- Windows: a part of the day in minutes from midnight.
+-- The rules of windows: a part of the day, in minutes after midnight.
 use Rattle.std.specs.Prelude.{ℕ, Bool, false, ◌&&◌, List, [], ◌∷◌, nat_le}
 use Rattle.values.specs.Rules.{Rules}
 use Rattle.trials.specs.declared.windows.Window.{Window}

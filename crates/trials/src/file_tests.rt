@@ -6,7 +6,7 @@ use std::process::Abort;
 use std::test::Fail;
 use values::{Buffer, Cell, Refusal, Shares};
 
-// Two controllers, no upsets, six rounds.
+// Two controllers, no faults, six rounds.
 const WORKED: [u8; 34] = [
     0, 0, 0, 2, 0, 0, 6, 0, 0, 0, 16, 0, 20, 0, 34, 0, // the header
     0xf4, 1, 0x58, 2, // the proposals
@@ -30,7 +30,7 @@ fn old_sheet() -> Cell<Shares> {
     Some(shares(1, 2, 3, 4))
 }
 
-// What is answered of a file that is refused outside the rounds.
+// What `list` returns of a file that is refused outside the rounds.
 fn refused(len: usize, refusal: Refusal) -> Listing {
     Listing {
         len,
@@ -72,49 +72,49 @@ struct Vote<'a> {
     lines: &'a [Line],
 }
 
-fn put_word(out: &mut Buffer, word: u16) {
-    let [low, high] = word.to_le_bytes();
+fn put_number(out: &mut Buffer, number: u16) {
+    let [low, high] = number.to_le_bytes();
     out.put_byte(low);
     out.put_byte(high);
 }
 
-fn word(len: usize) -> u16 {
+fn number(len: usize) -> u16 {
     u16::try_from(len).unwrap_or(u16::MAX)
 }
 
 // Writes the file of a vote. Its offsets are what its counts give.
 fn put_vote(out: &mut Buffer, vote: &Vote) {
     let n = vote.proposals.len();
-    let sets_at = word(n).saturating_mul(2).saturating_add(16);
-    let lines_at = word(vote.sets.len())
+    let sets_at = number(n).saturating_mul(2).saturating_add(16);
+    let lines_at = number(vote.sets.len())
         .saturating_mul(2)
         .saturating_add(sets_at);
-    let [n, _] = word(n).to_le_bytes();
+    let [n, _] = number(n).to_le_bytes();
     for byte in [0, vote.model.into(), vote.stamps.into(), n, vote.t, 0] {
         out.put_byte(byte);
     }
-    put_word(out, word(vote.sets.len()).saturating_sub(1));
-    put_word(out, word(vote.lines.len()));
+    put_number(out, number(vote.sets.len()).saturating_sub(1));
+    put_number(out, number(vote.lines.len()));
     for offset in [16, sets_at, lines_at] {
-        put_word(out, offset);
+        put_number(out, offset);
     }
     for proposal in vote.proposals {
-        put_word(out, *proposal);
+        put_number(out, *proposal);
     }
     for set in vote.sets {
-        put_word(out, *set);
+        put_number(out, *set);
     }
     for (round, bytes, value) in vote.lines {
-        put_word(out, *round);
+        put_number(out, *round);
         for byte in bytes {
             out.put_byte(*byte);
         }
-        put_word(out, *value);
+        put_number(out, *value);
     }
 }
 
-// The text that a vote's file is listed with, and the number, behind what of the vote is another than in a vote at hand:
-// its t, proposals and sets, or its lines.
+// What of a vote is another than in a vote at hand (its t, proposals and sets, or its lines), and then the text and the
+// number that its file is listed with.
 type Opened<'a> = (u8, &'a [u16], &'a [u16], &'a [u8], u8);
 
 type Lined<'a> = (&'a [Line], &'a [u8], u8);
@@ -361,7 +361,7 @@ fn a_refused_seat_is_told_with_its_round(rt: HostRuntime) {
     lines_come_to(&rt, MOVED, &FORGED_BEFORE);
 }
 
-// Whoever prints a stop prints the words of its refusal, behind its round if it has one.
+// Whoever prints a stop prints the words of its refusal, after its round if it has one.
 #[test]
 fn a_stop_is_told_in_words(rt: HostRuntime) -> Result<(), Fail> {
     let move_refused = Stop {
@@ -377,7 +377,7 @@ fn a_stop_is_told_in_words(rt: HostRuntime) -> Result<(), Fail> {
     let words = file_refused.to_string(rt.alloc())?;
     assert_eq!(rt;
         words.as_str(),
-        "a code in the header has no meaning, or byte 5 is not 0"
+        "the header has an unknown code for the kind, the model or stamps, or its byte 5 is not 0"
     );
     Ok(())
 }

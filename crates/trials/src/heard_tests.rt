@@ -7,7 +7,8 @@ use values::Setpoint;
 
 const NONE: Option<u16> = None;
 
-// Four controllers under carried: the upset arrives after its new host has sent, so whoever was seated before may forge.
+// Four controllers under carried: the fault arrives after its new host has sent, so it forges for whoever was seated
+// before.
 #[test]
 fn a_phase_goes_round_by_round(rt: HostRuntime) {
     const CALLS: &[Step] = &[
@@ -80,8 +81,8 @@ fn a_uniform_sender_tells_all_the_same(rt: HostRuntime) {
     }
 }
 
-// Four controllers that hold nothing in common, so that the row of the coordinator, 0, decides; it was seated before. The
-// values on which they settle.
+// What four controllers settle on that hold nothing in common, so that the coordinator's row decides. The coordinator
+// is 0, and was seated before.
 fn coordinator_tells<M: Model>(
     rt: &impl Abort,
     model: &M,

@@ -1,7 +1,7 @@
 //! What several tests make or read.
 //!
-//! A test is proved before it runs, and each call and assertion that is written in it makes that proof longer. So what a test
-//! tries stands in a table, in a constant where it can, and a loop asserts all rows.
+//! A test is proved before it runs, and each call and assertion that is written in it makes that proof longer. So what
+//! a test tries stands in a table, in a constant where it can, and a loop asserts all of it.
 use models::{Model, Moved, Set};
 use run::{Answer, Call, Opening, Place, Run};
 use std::process::Abort;
@@ -31,12 +31,12 @@ pub fn quorum(at_least: usize, otherwise_at_most: usize) -> Quorum {
     }
 }
 
-// The row of the value that is read, or the number of the refusal: the number is what people know, so tests hold it.
+// The row of the value that is read, or the number of the refusal: tests hold the number, since people know it.
 pub fn read_row<K: Kind>(bytes: &[u8]) -> Result<K::Row, u8> {
     K::read(bytes).map(|value| value.row()).map_err(u8::from)
 }
 
-/// A call on a run of setpoints, short enough for a row of a table.
+/// A call on a run of setpoints, short enough for a line of a table.
 #[derive(Clone, Copy)]
 pub enum Step<'c> {
     /// n, t, the proposals and the initial set.
@@ -78,7 +78,7 @@ pub type Outcome = Result<Answer<u16>, u8>;
 
 pub const DONE: Outcome = Ok(Answer::Done);
 
-// By the method of each call, where `play` goes through `perform`.
+// By the method of each call; the tests of `play` go through `perform`.
 pub fn ask<M: Model>(run: &mut Run<Setpoint>, model: &M, step: Step) -> Outcome {
     let outcome = match call_of(step) {
         Call::Open(opening) => run.open(model, opening).map(|()| Answer::Done),

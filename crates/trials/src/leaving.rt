@@ -5,7 +5,8 @@ ghost use Rattle.std.proofs.Common.{rules};
 
 use models::{Class, Counts, LawfulModel, Model as FaultModel, Moved, Set, Stamped};
 
-/// A model of faults as a stranger would build one: a fault stays or leaves for good, and who was left keeps silent.
+/// A model of faults written outside the library: a fault stays or leaves for good, and a controller that it left is
+/// silent for a round.
 #[derive(Clone, Copy, PartialEq, Eq, Debug)]
 pub struct Leaving;
 
@@ -53,7 +54,7 @@ pub fn may_stay<M: LawfulModel>(model: &M, set: Set, t: usize) -> bool
     })
 }
 
-/// The same with stamps on the model, twice.
+/// The same of the model with stamps on it, twice.
 pub fn may_stay_stamped<M: LawfulModel + Copy>(model: M, set: Set, t: usize) -> bool
     ensures value { result ≡ (M.Model.meaning model).allowed set.0 set.0 t }
     ensures law { Few set.0 t → result ≡ true }

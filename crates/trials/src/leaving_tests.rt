@@ -3,7 +3,7 @@ use crate::leaving::{Leaving, may_stay, may_stay_stamped};
 use models::{Class, Model, Set, Standard};
 
 #[test]
-fn a_strangers_model_lets_faults_leave_only(rt: HostRuntime) {
+fn a_model_written_outside_lets_faults_leave_only(rt: HostRuntime) {
     let moves = [
         (0b111, 0b101, true),
         (0b111, 0, true),

@@ -1,5 +1,5 @@
-//! Tests of the public calls of the other crates; a value kind and two models of faults as strangers would build them; and
-//! callers that conclude something.
+//! Tests of the public calls of the other crates; a value kind and two models of faults as whoever uses the library
+//! would build their own; and callers that conclude something.
 #![tactic(auto)]
 
 #[cfg(test)]

@@ -75,7 +75,7 @@ fn what_is_forged_in_a_list_counts(rt: HostRuntime) {
     assert_eq!(rt; &cells[80..84], [None, Some(500), None, None].as_slice());
 }
 
-// As many calls are performed as there is room for answers; where there is more room, the rest of it stays.
+// As many calls are performed as there are places for answers; where there are more places, the others stay.
 #[test]
 fn calls_and_room_bound_each_other(rt: HostRuntime) {
     let opening = Opening {

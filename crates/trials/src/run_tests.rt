@@ -81,7 +81,7 @@ fn a_proposal_needs_enough_cells_and_few_otherwise(rt: HostRuntime) {
     assert_eq!(rt; heard, [Some(500), None, None, None, None]);
 }
 
-// Three controllers and no upsets: all three cells are needed, and all three mean the fallback.
+// Three controllers and no faults: all three cells are needed, and all three mean the fallback.
 #[test]
 fn a_proposal_that_breaks_the_rule_counts_as_the_fallback(rt: HostRuntime) {
     let mut cells = [None; 60];
@@ -134,9 +134,9 @@ fn four_candidates_decide(rt: HostRuntime) {
     assert_eq!(rt; &cells[252..258], v.as_slice());
 }
 
-// Six controllers under unaware, with no value that four hold. In phase 0 the coordinator tells 1, 2 and 3 a row that holds
-// 610 and 500 three times each, and 610 first. In phase 1 controller 0 makes 1 and 2 alone hold 610, and tells only some of
-// their 610 in the collecting round; so columns 0, 1 and 2 have candidates, which are not enough.
+// Six controllers under unaware, with no value that four hold. In phase 0 the coordinator tells 1, 2 and 3 a row that
+// holds 610 and 500 three times each, and 610 first. In phase 1 controller 0 makes 1 and 2 alone hold 610, and tells
+// only some of their 610 in the collecting round; so columns 0, 1 and 2 have candidates, which are not enough.
 fn three_candidates(rt: &impl Abort, told: [usize; 3]) -> [Option<u16>; 6] {
     let mut cells = [None; 318];
     {
@@ -192,8 +192,8 @@ fn three_candidates_leave_it_to_the_coordinator(rt: HostRuntime) {
     assert_eq!(rt; v, [None, low, low, low, low, low]);
 }
 
-// Six controllers under unaware, and each coordinator is seated in its whole phase. It tells three controllers 500 and two
-// 610, so no value ever has four holders, and the decisions differ.
+// Six controllers under unaware, and each coordinator is seated in its whole phase. It tells three controllers 500 and
+// two 610, so no value ever has four holders, and the decisions differ.
 #[test]
 fn a_decision_is_kept_while_four_hold_it(rt: HostRuntime) {
     let model = Standard::Unaware;

@@ -9,8 +9,8 @@ use values::{Cell, Setpoint};
 
 const OLD: Cell<u16> = Some(777);
 
-// Whom the upset grips. It moves from round to round, and in its deciding round it is on the coordinator of each phase but the
-// last, so only the last coordinator is sure to be unseated where it counts.
+// Whom the fault grips. It moves from round to round, and in the deciding round of each phase but the last it grips the
+// coordinator, so only the last coordinator is sure to be unseated where it counts.
 fn seated_in(n: usize, round: usize) -> Set
     requires few { 1 < n }
 {
@@ -25,7 +25,7 @@ fn seated_in(n: usize, round: usize) -> Set
     Set(1 << (controller % 16))
 }
 
-// Forges at every place of the round's messages: another cell for each receiver, which only a free sender may tell.
+// Forges at every place of the round's messages, another cell for each receiver: only for a free sender are all taken.
 fn forge_all<M: Model>(
     rt: &impl Abort,
     run: &mut Run<Setpoint>,
@@ -93,8 +93,8 @@ fn check_cells(rt: &impl Abort, cells: &[Cell<u16>; 480], n: usize, seated: Set)
     }
 }
 
-// A run of the smallest block that bears one upset, in which every controller is gripped once more after the last phase.
-// The decision.
+// The decision, after a run of the smallest block that bears one fault, which grips every controller once more after
+// the last phase.
 fn whole_run<M: Model>(
     rt: &impl Abort,
     model: &M,
@@ -131,7 +131,7 @@ fn whole_run<M: Model>(
     agreed
 }
 
-// Whatever is proposed there is one decision, and if all propose 500 it is that.
+// Whatever is proposed there is one decision, and if all but 0 propose 500 it is 500.
 fn agree<M: Model>(rt: &impl Abort, model: &M, n: usize, moving: bool)
     requires few { 1 < n }
     requires size { n ≤ 7 }
@@ -140,7 +140,7 @@ fn agree<M: Model>(rt: &impl Abort, model: &M, n: usize, moving: bool)
     assert!(rt; whole_run(rt, model, n, apart, moving).is_some());
     let camps = [500, 610, 500, 610, 500, 610, 500];
     assert!(rt; whole_run(rt, model, n, camps, moving).is_some());
-    // whoever is in the initial set may propose what it likes
+    // 0 is in the initial set, and may propose what it likes
     let alike = [610, 500, 500, 500, 500, 500, 500];
     assert_eq!(rt; whole_run(rt, model, n, alike, moving), Some(500));
 }

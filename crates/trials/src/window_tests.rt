@@ -4,7 +4,7 @@ use std::test::Fail;
 use values::{Buffer, Kind, tally, winner};
 
 #[test]
-fn a_strangers_kind_is_counted(rt: HostRuntime) {
+fn a_kind_written_outside_is_counted(rt: HostRuntime) {
     let cells = [
         Some((600, 500)),
         None,
@@ -31,7 +31,7 @@ fn a_strangers_kind_is_counted(rt: HostRuntime) {
 }
 
 #[test]
-fn a_strangers_kind_is_read_and_written(rt: HostRuntime) -> Result<(), Fail> {
+fn a_kind_written_outside_is_read_and_written(rt: HostRuntime) -> Result<(), Fail> {
     assert!(rt; Window::read(&[60, 0, 59, 0]).is_err());
     let window = Window::read(&[60, 0, 160, 5])?;
     let mut room = [b'.'; 9];

@@ -1,8 +1,9 @@
 ghost use Rattle.std.specs.Prelude.{◌≤◌};
 
-use values::{Buffer, Kind, words};
+use values::{Buffer, Kind, numbers};
 
-/// A part of the day in which vents may open, in minutes from midnight: from one to another that is not before it.
+/// A part of the day in which vents may open, in minutes after midnight: from one to another that is not before it. Its
+/// kind is written outside the library.
 #[derive(Clone, Copy, PartialEq, Eq, Debug)]
 pub struct Window {
     from: u16,
@@ -60,7 +61,7 @@ impl Kind for Window {
     }
 
     fn decode(bytes: &[u8]) -> Option<(u16, u16)> {
-        let [from, until] = words::<2>(bytes)?;
+        let [from, until] = numbers::<2>(bytes)?;
         Some((from, until))
     }
 

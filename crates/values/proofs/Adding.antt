@@ -1,4 +1,4 @@
--- How additions to a lent text follow on each other.
+-- How additions to the text of a buffer follow on each other.
 use Rattle.std.proofs.Common.{◌≡◌, ℕ, zero, suc, ◌+◌, ◌-◌, List, [], ◌∷◌, ◌++◌, length, take, drop, sym, refl, ap, ◌∙◌, subst, append_assoc, arith, drop-drop}
 use Rattle.values.specs.declared.buffers.Buffer.{Buffer}
 use Rattle.values.specs.Added.{Added, Puts}
@@ -27,6 +27,6 @@ chain {a} {b} {c} {x} {y} p q = record {
         let e : b.len + (c.len - b.len) ≡ c.len = omega (arith, q.grows) in
         subst (λ n. drop n b.room.now ≡ drop n a.room.now) e (sym (drop-drop (c.len - b.len) b.len b.room.now) ∙ ap (drop (c.len - b.len)) p.rest ∙ drop-drop (c.len - b.len) b.len a.room.now)
 
--- one call that writes after another
+-- one function that writes after another
 pub puts_chain : {a b c : Buffer} {x y z : List ℕ} → x ++ y ≡ z → Puts a x b → Puts b y c → Puts a z c
 puts_chain {a} {b} {c} e p q = record { named = q.named ∙ p.named; added = subst (λ w. Added a w c) e (chain p.added q.added) }

@@ -5,15 +5,15 @@ use Rattle.std.specs.Int.{from_le_bytes}
 use Rattle.std.specs.Simd.{first_chunks}
 use Rattle.std.specs.Array.{IsFromFnResultFrom}
 use denote.Param.Members.{Mut, Called}
-use Rattle.values.specs.Rules.{words}
+use Rattle.values.specs.Rules.{numbers}
 
 -- twice n bytes hold the numbers of n pairs
-pub words_pairs : (n : ℕ) (bytes : List ℕ) → length bytes ≡ 2 * n → words bytes ≡ map (from_le_bytes w16) (first_chunks 2 n bytes)
-words_pairs zero [] h = refl
-words_pairs zero (x ∷ bytes) h = absurd (omega arith)
-words_pairs (suc n) [] h = absurd (omega arith)
-words_pairs (suc n) (x ∷ []) h = absurd (omega arith)
-words_pairs (suc n) (x ∷ y ∷ bytes) h = ap (λ r. (x + y * 256) ∷ r) (words_pairs n bytes (omega arith))
+pub numbers_pairs : (n : ℕ) (bytes : List ℕ) → length bytes ≡ 2 * n → numbers bytes ≡ map (from_le_bytes w16) (first_chunks 2 n bytes)
+numbers_pairs zero [] h = refl
+numbers_pairs zero (x ∷ bytes) h = absurd (omega arith)
+numbers_pairs (suc n) [] h = absurd (omega arith)
+numbers_pairs (suc n) (x ∷ []) h = absurd (omega arith)
+numbers_pairs (suc n) (x ∷ y ∷ bytes) h = ap (λ r. (x + y * 256) ∷ r) (numbers_pairs n bytes (omega arith))
 
 -- calls of a closure that stays as it is and gives h of each index
 module _ {F B : Type 0} (g : Mut F (ℕ × Unit {0}) B) (f : F) (h : ℕ → B) (pure : (i : ℕ) (y : B) (q : F) → Called g f (i, tt) y q → (y ≡ h i) × (q ≡ f)) where

@@ -13,7 +13,7 @@ seen_at k plain cells i c lt e = get_or-map (shows k plain) cells i c None lt �
 pub seen_is : {R : Type 0} (k : Rules) (plain : R → List ℕ) (cells : List (Option R)) (i : ℕ) → seen k plain cells i ≡ shows k plain (get_or cells i None)
 seen_is k plain cells i = get_or-map-past (shows k plain) cells i None
 
--- counting by place and counting in the list is one
+-- counting by place and counting in the list give one number
 module _ {R : Type 0} (k : Rules) (plain : R → List ℕ) (cells : List (Option R)) where
   count_seen : (q : Held → Bool) → count (λ i. q (seen k plain cells i)) (length cells) ≡ count_by q (map (shows k plain) cells)
   count_seen q = ap (count (λ i. q (seen k plain cells i))) (sym (length-map cells (shows k plain))) ∙ sym (count_list q None (map (shows k plain) cells))

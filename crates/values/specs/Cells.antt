@@ -4,11 +4,11 @@ use Rattle.std.specs.Option.{option_map}
 use Rattle.values.specs.Rules.{Rules, means}
 use Rattle.values.specs.Counting.{count, lowest, IsLowest}
 
--- a cell by its meaning
+-- a cell by its meaning: empty, or the numbers of a value
 abbrev pub Held : Type 0
 Held = Option (List ℕ)
 
--- what a cell holds: nothing, or the value that its row means
+-- what a cell holds: nothing, or the value that the row in it means
 abbrev pub shows : {R : Type 0} → Rules → (R → List ℕ) → Option R → Held
 shows k plain cell = option_map (means k plain) cell
 
@@ -23,26 +23,29 @@ alike [] (y ∷ ys) = false
 alike (x ∷ xs) [] = false
 alike (x ∷ xs) (y ∷ ys) = x == y && alike xs ys
 
--- the cell holds v; the cell is filled otherwise
+-- whether a cell holds v
 unfoldable pub holds : List ℕ → Held → Bool
 holds v None = false
 holds v (Some w) = alike w v
 
+-- whether a cell is filled otherwise: with another value than v
 unfoldable pub differs : List ℕ → Held → Bool
 differs v None = false
 differs v (Some w) = not (alike w v)
 
--- how many of n cells hold v, and how many are filled otherwise
+-- how many of n cells hold v
 abbrev pub holders : (ℕ → Held) → ℕ → List ℕ → ℕ
 holders cells n v = count (λ i. holds v (cells i)) n
 
+-- how many of n cells are filled otherwise
 abbrev pub others : (ℕ → Held) → ℕ → List ℕ → ℕ
 others cells n v = count (λ i. differs v (cells i)) n
 
--- the same two counts over a list of cells
+-- how many cells of a list hold v
 abbrev pub holders_in : List Held → List ℕ → ℕ
 holders_in cells v = count_by (holds v) cells
 
+-- how many cells of a list are filled otherwise
 abbrev pub others_in : List Held → List ℕ → ℕ
 others_in cells v = count_by (differs v) cells
 
@@ -51,7 +54,7 @@ unfoldable pub passes : (List ℕ → Bool) → Held → Bool
 passes q None = false
 passes q (Some v) = q v
 
--- so many holders at least, and so many cells filled otherwise at most
+-- whether two counts meet two bounds: enough cells hold a value, and not too many are filled otherwise
 abbrev pub meets : (least most held otherwise : ℕ) → Bool
 meets least most held otherwise = nat_le least held && nat_le otherwise most
 
@@ -71,6 +74,7 @@ qualifying least most cells n i = passes (qualifies least most cells n) (cells i
 abbrev pub winning : ℕ → ℕ → (ℕ → Held) → ℕ → Option ℕ
 winning least most cells n = lowest (qualifying least most cells n) n
 
--- the law of the winner: its value qualifies, and no value at a lower place does; or there is no winner, and no value qualifies
+-- the law of the winner: the value at its place qualifies, and none at a lower place does; or there is no winner, and
+-- no cell's value qualifies
 abbrev pub IsWinner : ℕ → ℕ → (ℕ → Held) → ℕ → Option ℕ → Type 0
 IsWinner least most cells n r = IsLowest (qualifying least most cells n) n r

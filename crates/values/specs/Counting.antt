@@ -17,6 +17,6 @@ unfoldable pub lowest : (ℕ → Bool) → ℕ → Option ℕ
 lowest p zero = None
 lowest p (suc n) = option_or (lowest p n) (if p n then Some n else None)
 
--- the law of `lowest`: no place passes; or the place passes, and none below it does
+-- the law of `lowest`: no place below n passes; or the result is a place below n that passes, and none below it does
 abbrev pub IsLowest : (ℕ → Bool) → ℕ → Option ℕ → Type 0
 IsLowest p n r = MatchOption r ((i : ℕ) → i < n → p i ≡ false) (λ i. (i < n) × (p i ≡ true) × ((j : ℕ) → j < i → p j ≡ false))

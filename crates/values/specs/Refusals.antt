@@ -1,4 +1,4 @@
--- The number by which people know each refusal, and what its words are.
+-- The number by which people know each refusal, and what holds of its words.
 use Rattle.std.specs.Prelude.{◌≡◌, ℕ, ◌<◌, true, List, length, ◌&&◌, nat_le, Some, None, Option, Result, MatchResult}
 use Rattle.std.specs.List.{list_all}
 use Rattle.values.specs.declared.refusals.Refusal.{Refusal}
@@ -43,15 +43,15 @@ number_of Value = 24
 number_of ForgeryLine = 25
 number_of TextRoom = 26
 
--- words for people fill part of a line and no more: there are some, all in plain print (32 to 126), so that none ends the line
+-- words for people fit into a line: there are some, and all are plain print (32 to 126), so that none ends the line
 pub record IsOneLine (words : List ℕ) : Type 0 where
   pub some : 0 < length words
   pub plain : list_all (λ b. nat_le 32 b && nat_le b 126) words ≡ true
 
--- it is refused exactly if there is a refusal, and with that one
+-- the result is an error exactly if there is a refusal, and then it is that refusal
 abbrev pub TellsWhy : {A : Type 0} → Option Refusal → Result A Refusal → Type 0
 TellsWhy refusal result = MatchResult result (λ _. refusal ≡ None) (λ why. refusal ≡ Some why)
 
--- where there is a refusal it is that one, and else something is found that is as asked for
+-- the result is something as asked for, or an error that is this refusal
 abbrev pub FindsOr : {A : Type 0} → (Found : A → Type 0) → Option Refusal → Result A Refusal → Type 0
 FindsOr Found refusal result = MatchResult result Found (λ why. refusal ≡ Some why)

@@ -3,7 +3,7 @@ use Rattle.std.specs.Prelude.{ℕ, Bool, false, ◌&&◌, List, [], ◌∷◌, n
 use Rattle.values.specs.Rules.{Rules}
 use Rattle.values.specs.declared.setpoints.Setpoint.{Setpoint}
 
--- one number from 200 to 900
+-- the rule of setpoints: one number from 200 to 900
 abbrev pub in_range : List ℕ → Bool
 in_range [] = false
 in_range (x ∷ []) = nat_le 200 x && nat_le x 900

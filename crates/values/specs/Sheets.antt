@@ -4,7 +4,7 @@ use Rattle.values.specs.Rules.{Rules}
 use Rattle.values.specs.declared.sheets.Sheet.{Sheet}
 use Rattle.values.specs.declared.sheets.Shares.{Shares}
 
--- four shares that total at most 1000
+-- the rule of sheets: four shares, at most 1000 together
 abbrev pub in_whole : List ℕ → Bool
 in_whole xs = length xs == 4 && nat_le (sum xs) 1000
 

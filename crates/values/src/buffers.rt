@@ -1,8 +1,7 @@
 ghost use Rattle.std.specs.Prelude.{◌≤◌, length};
 
-/// A text in lent memory: the first `len` bytes of `room`. Where the room ends the text is cut.
-// Not a `String`: the way from a run file to a listing allocates nothing, so a length stands beside lent room. And not
-// written by `Display` through a `fmt::Write`: that promises its text only where the answer is `Ok`, and here it is always.
+/// A text in room that is lent for it: the first `len` bytes of `room`. What no longer fits is cut off.
+// Lent, since a listing is written without allocating.
 #[derive(Drop)]
 pub struct Buffer<'a> {
     room: &'a mut [u8],
@@ -15,7 +14,7 @@ impl<'a> Buffer<'a> {
     ghost use Rattle.values.specs.Added.{Puts};
     ghost use Rattle.values.specs.Rules.{text};
 
-    /// An empty text over `room`, whose bytes stay as they are.
+    /// An empty text over `room`, whose bytes stay as they are until text is added.
     pub fn over(room: &'a mut [u8]) -> Buffer<'a>
         ensures named { result.room.ghost_name ≡ room.entry.ghost_name }
         ensures value { (result.room.now ≡ room.old) × (result.len ≡ 0) }
@@ -23,14 +22,14 @@ impl<'a> Buffer<'a> {
         Buffer { room, len: 0 }
     }
 
-    /// The length of the text.
+    /// The length of the text in bytes.
     pub fn len(&self) -> usize
         ensures { result ≡ self.now.len }
     {
         self.len
     }
 
-    /// Adds one byte, if there is room.
+    /// Adds one byte, or nothing where the room is full.
     pub fn put_byte(&mut self, byte: u8)
         ensures { Puts self.old (byte ∷ []) self.new }
     {
@@ -41,7 +40,7 @@ impl<'a> Buffer<'a> {
         }
     }
 
-    /// Adds words.
+    /// Adds a string, as far as the room goes.
     pub fn put_str(&mut self, words: &str)
         ensures { Puts self.old words.now self.new }
     {
@@ -50,8 +49,8 @@ impl<'a> Buffer<'a> {
         }
     }
 
-    /// Adds a number in decimal.
-    // Digit by digit: `Display` is ruled out above, and a library for digits would be one more thing to trust.
+    /// Adds a number in decimal, as far as the room goes: 305 adds `305`.
+    // By hand: std writes digits through a `fmt::Write`, whose contract does not tell the text if the write fails.
     pub fn put_decimal(&mut self, number: u16)
         ensures { Puts self.old (decimal number) self.new }
     {
@@ -61,7 +60,7 @@ impl<'a> Buffer<'a> {
         self.put_byte(b'0' + (number % 10) as u8);
     }
 
-    /// Adds numbers in decimal, parted by one blank.
+    /// Adds numbers in decimal, separated by one blank, as far as the room goes: 400 and 300 add `400 300`.
     pub fn put_numbers(&mut self, numbers: &[u16])
         ensures { Puts self.old (text numbers.now) self.new }
     {

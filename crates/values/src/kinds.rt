@@ -8,22 +8,21 @@ use crate::refusals::Refusal;
 
 /// A value kind: what its values mean, and how they lie in cells, are read and are written.
 ///
-/// Whoever builds a kind owes each clause and law below; code over any kind rests on them alone.
-/// No method alters a value, and only `read` refuses.
-// What has no body here names a kind's own fields or rule, or says why it has none. `row` and `checked` are no `From` and
-// `TryFrom`: the laws of a kind would then have to tie the members of three traits.
+/// Whoever builds a kind of their own owes each clause and law below; code over any kind rests on them alone.
+/// Values are never altered, and `read` is the one method that refuses.
 pub trait Kind: Sized + Drop {
-    /// A value as it lies in a cell: plain numbers, under no rule.
+    /// A value's row: how a value lies in a cell, as plain numbers under no rule.
     ///
-    /// A row may break the kind's rule, and then stands for the fallback: `value` gives the value that a row means. Where
-    /// rows have `==` it compares their numbers: two rows that break the rule are two rows, but one value. `same_value`
-    /// compares what rows mean.
+    /// A row may break the rule, and then means the fallback: as setpoints, the rows 100 and 950 both mean 400.
+    /// Where rows have `==` it compares the plain numbers, so those two differ; `same_value` compares what rows mean.
+    ///
+    /// A controller's row is another thing: the n cells that a controller noted in a collecting round.
     type Row: Copy;
 
-    /// The width of a value in bytes.
+    /// The width: how many bytes a value is read from, two for each of its numbers.
     const WIDTH: usize;
 
-    // the constant, for clauses and laws
+    // the width, for clauses and laws
     ghost WIDTH: { ℕ };
 
     // the rule, the fallback and the width
@@ -32,23 +31,23 @@ pub trait Kind: Sized + Drop {
     // the whole numbers that a value means
     ghost meaning: { Self → List ℕ };
 
-    // the plain numbers of a row
+    // the plain numbers of a value's row
     ghost plain: { Self.Row → List ℕ };
 
-    /// The value that a row which breaks the rule stands for.
+    /// The fallback: the value that every row which breaks the rule stands for.
     fn fallback() -> Self
         ensures { meaning result ≡ rules.fallback };
 
-    /// The row of a value: its numbers, which mean that value again.
+    /// The value's row: its numbers, which mean that value again.
     fn row(&self) -> Self::Row
         ensures numbers { plain result ≡ meaning self.now }
         ensures back { means rules plain result ≡ meaning self.now };
 
-    /// The value with a row's numbers, if they keep the rule.
+    /// The value with a row's numbers; `None` if they break the rule.
     fn checked(row: &Self::Row) -> Option<Self>
         ensures { option_map meaning result ≡ lawful rules (plain row.now) };
 
-    /// The value that a row means: its own, or the fallback where it breaks the rule.
+    /// The value that a row means: the one with its numbers, or the fallback where they break the rule.
     fn value(row: &Self::Row) -> Self
         ensures { meaning result ≡ means rules plain row.now }
     {
@@ -56,15 +55,18 @@ pub trait Kind: Sized + Drop {
     }
 
     /// Whether two values are the same: exactly if they mean equal numbers.
-    // No body here: it could only be `==`, and would need a bound and a law of equality, which no kind owes.
     fn same(&self, other: &Self) -> bool
         ensures { IsTrue result ↔ (meaning self.now ≡ meaning other.now) };
 
-    /// The row in exactly as many bytes as the width: numbers of two bytes, low byte first.
+    /// The row in `WIDTH` bytes, by numbers of two bytes, low byte first; it may break the rule.
+    ///
+    /// `None` for fewer or more bytes.
     fn decode(bytes: &[u8]) -> Option<Self::Row>
         ensures { option_map plain result ≡ decodes rules bytes.now };
 
-    /// Reads a value: bytes that are too few or too many, or break the rule, are refused.
+    /// Reads a value from `WIDTH` bytes, by numbers of two bytes, low byte first.
+    ///
+    /// Refused with `Refusal::Value` if the bytes are fewer or more, or their numbers break the rule.
     fn read(bytes: &[u8]) -> Result<Self, Refusal>
         ensures { meant meaning result ≡ reads rules bytes.now }
     {
@@ -73,12 +75,11 @@ pub trait Kind: Sized + Drop {
             .ok_or(Refusal::Value)
     }
 
-    /// Adds the value's numbers to a text, in decimal and parted by one blank.
-    // Not `Display`, for the reason that stands at `Buffer`.
+    /// Adds the value's numbers to a text, in decimal and separated by one blank, as far as its room goes.
     fn write(&self, out: &mut Buffer)
         ensures { Puts out.old (text (meaning self.now)) out.new };
 
-    // the constant is the width of the rules, so generic code may go by it
+    // the constant is the width of the rules, so generic code can go by the constant
     ghost wide: { WIDTH ≡ rules.width };
 
     // every value keeps the rule

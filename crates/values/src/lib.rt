@@ -12,7 +12,7 @@ mod sheets;
 pub use buffers::Buffer;
 pub use cells::{Cell, Quorum, same_value, tally, winner};
 pub use kinds::Kind;
-pub use reading::words;
+pub use reading::numbers;
 pub use refusals::Refusal;
 pub use setpoints::Setpoint;
 pub use sheets::{Shares, Sheet};

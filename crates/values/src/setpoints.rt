@@ -2,10 +2,10 @@ ghost use Rattle.std.specs.Prelude.{◌≡◌, ◌≤◌, Some};
 
 use crate::buffers::Buffer;
 use crate::kinds::Kind;
-use crate::reading::words;
+use crate::reading::numbers;
 use std::fmt;
 
-/// Supply water in tenths of a degree Celsius, from 200 to 900.
+/// What the boiler's supply water is set to: from 20.0 to 90.0 degrees Celsius, in tenths (200 to 900).
 #[derive(Clone, Copy, PartialEq, Eq, Debug)]
 pub struct Setpoint {
     tenths: u16,
@@ -13,7 +13,7 @@ pub struct Setpoint {
 }
 
 impl Setpoint {
-    /// The setpoint in tenths of a degree Celsius.
+    /// The setpoint in tenths of a degree Celsius: 655 is 65.5 degrees.
     pub fn tenths(&self) -> u16
         ensures { result ≡ self.now.tenths }
     {
@@ -79,7 +79,7 @@ impl Kind for Setpoint {
     }
 
     fn decode(bytes: &[u8]) -> Option<u16> {
-        let [tenths] = words::<1>(bytes)?;
+        let [tenths] = numbers::<1>(bytes)?;
         Some(tenths)
     }
 

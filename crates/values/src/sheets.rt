@@ -2,9 +2,9 @@ ghost use Rattle.std.specs.Prelude.{◌+◌, ◌≤◌};
 
 use crate::buffers::Buffer;
 use crate::kinds::Kind;
-use crate::reading::words;
+use crate::reading::numbers;
 
-/// How the warm water is shared among four zones, in thousandths. No sheet shares out more than all of it.
+/// How the warm water is shared among four zones, in thousandths. The four shares are at most 1000 together.
 #[derive(Clone, Copy, PartialEq, Eq, Debug)]
 pub struct Sheet {
     zone0: u16,
@@ -14,16 +14,16 @@ pub struct Sheet {
     ghost whole: { zone0 + zone1 + zone2 + zone3 ≤ 1000 },
 }
 
-/// Four shares as plain numbers, under no rule.
+/// A sheet's row (`Kind::Row`): four shares as plain numbers, under no rule.
 #[derive(Clone, Copy, PartialEq, Eq, Debug)]
 pub struct Shares {
     /// The share of zone 0, in thousandths of the warm water.
     pub zone0: u16,
-    /// The share of zone 1, in thousandths.
+    /// The share of zone 1, in thousandths of the warm water.
     pub zone1: u16,
-    /// The share of zone 2, in thousandths.
+    /// The share of zone 2, in thousandths of the warm water.
     pub zone2: u16,
-    /// The share of zone 3, in thousandths.
+    /// The share of zone 3, in thousandths of the warm water.
     pub zone3: u16,
 }
 
@@ -31,7 +31,7 @@ impl Shares {
     ghost use Rattle.std.specs.Prelude.{◌≡◌, sum};
     ghost use Rattle.values.specs.Sheets.{plain_shares};
 
-    // The sum in 32 bits, since four shares of 16 bits may pass 65,535.
+    // In 32 bits, since four shares of 16 bits may pass 65,535 together.
     fn total(&self) -> u32
         ensures { result ≡ sum (plain_shares self.now) }
     {
@@ -74,7 +74,6 @@ impl Kind for Sheet {
         }
     }
 
-    // Field by field, as in `checked`: a sheet is a plain struct of four named shares under a rule, and `Shares` has none.
     fn row(&self) -> Shares {
         Shares {
             zone0: self.zone0,
@@ -101,7 +100,7 @@ impl Kind for Sheet {
     }
 
     fn decode(bytes: &[u8]) -> Option<Shares> {
-        let [zone0, zone1, zone2, zone3] = words::<4>(bytes)?;
+        let [zone0, zone1, zone2, zone3] = numbers::<4>(bytes)?;
         Some(Shares {
             zone0,
             zone1,

@@ -5,12 +5,12 @@ ghost use Rattle.values.specs.Rules.{meant};
 ghost use Rattle.values.specs.Setpoints.{tenths_of};
 ghost use Rattle.poll.specs.Polls.{pieces, proposed, cells_of, sized, shown, unseen, counted, standings_of, told, Polled};
 
-use crate::polls::{Fault, Poll, Standing};
+use crate::polls::{Poll, PollError, Standing};
 use models::MOST_CONTROLLERS;
 use std::alloc::{AllocError, Global};
 use values::{Cell, Kind, Refusal, Setpoint, tally};
 
-// What each controller proposes, two bytes each.
+// What each controller proposes, by two bytes each, or the refusal of its bytes.
 fn read_proposals(heap: Global, input: &[u8]) -> Result<Vec<Result<Setpoint, Refusal>>, AllocError>
     ensures { IfOk result (λ v. map (meant tenths_of) v.items ≡ proposed input.now) }
 {
@@ -27,7 +27,7 @@ fn controllers(input: &[u8]) -> usize
     input.len().div_ceil(Setpoint::WIDTH)
 }
 
-// A block has a controller at least, and not too many.
+// Refuses a block of no controllers or too many.
 fn check_size(n: usize) -> Result<(), Refusal>
     ensures { result ≡ sized n }
 {
@@ -38,7 +38,7 @@ fn check_size(n: usize) -> Result<(), Refusal>
     }
 }
 
-// The cell of a proposal: a refused one is empty.
+// The cell of a proposal, empty where the proposal is refused.
 fn cell_of(proposal: &Result<Setpoint, Refusal>) -> Cell<u16>
     ensures { shown result ≡ result_ok (meant tenths_of proposal.now) }
 {
@@ -54,7 +54,7 @@ fn cells_of(
     proposals.iter().map(cell_of).collect(heap)
 }
 
-// How the value of a cell stands among all cells, if it is filled and none of the earlier ones holds the same.
+// How the value of a cell stands among all cells, if the cell is filled and no earlier cell holds the same.
 fn first_standing(earlier: &[Cell<u16>], cell: Cell<u16>, cells: &[Cell<u16>]) -> Option<Standing>
     ensures { map told (option_to_list result) ≡ map (counted (map shown cells.now)) (unseen (map shown earlier.now) (shown cell)) }
 {
@@ -74,7 +74,7 @@ fn first_standing(earlier: &[Cell<u16>], cell: Cell<u16>, cells: &[Cell<u16>]) -
 fn standings(heap: Global, cells: &[Cell<u16>]) -> Result<Vec<Standing>, AllocError>
     ensures { IfOk result (λ v. map told v.items ≡ standings_of (map shown cells.now)) }
 {
-    // A loop: std's lemma on `filter_map` asks which standing came, and clauses know only what it tells.
+    // A loop: std's lemma on `filter_map` asks for the standing itself, and clauses know only what it tells.
     let mut found = Vec::new(heap);
     for (i, cell) in cells.iter().enumerate() {
         if let Some(standing) = first_standing(&cells[..i], *cell, cells) {
@@ -84,8 +84,11 @@ fn standings(heap: Global, cells: &[Cell<u16>]) -> Result<Vec<Standing>, AllocEr
     Ok(found)
 }
 
-/// Reads the proposals of one block and counts each distinct value.
-pub fn hold(heap: Global, input: &[u8]) -> Result<Poll, Fault>
+/// Reads the proposals of one block, two bytes for each controller from 0 on, and counts each distinct value.
+///
+/// An odd byte at the end is a proposal too, which is refused. The block is refused with `BlockSize` if there are no
+/// proposals or more than 16; else it is polled, or memory is wanting (`NoMemory`).
+pub fn hold(heap: Global, input: &[u8]) -> Result<Poll, PollError>
     ensures { Polled input.now result }
 {
     check_size(controllers(input))?;

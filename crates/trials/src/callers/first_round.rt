@@ -5,7 +5,7 @@ use models::{Set, Standard};
 use run::{Opening, Run};
 use values::{Kind, Refusal};
 
-/// Opens a block under unaware and runs its first round, in which nothing is forged. It is refused where the run is not idle.
+/// Opens a block under unaware and runs its first round, in which nothing is forged. The first refusal ends it.
 pub fn first_round<K: Kind>(
     run: &mut Run<K>,
     opening: Opening<K::Row>,

@@ -5,7 +5,7 @@ ghost use Rattle.trials.specs.Listed.{Agreed};
 use run_file::list;
 use values::{Cell, Shares};
 
-/// Lists a file, and answers the length of the text if the file tells a vote.
+/// Lists a file, and returns the length of the text, or nothing if the file is refused.
 pub fn list_vote(
     file: &[u8],
     setpoints: &mut [Cell<u16>],

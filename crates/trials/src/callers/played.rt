@@ -5,7 +5,7 @@ use models::LawfulModel;
 use run::{Answer, Call, play};
 use values::{Cell, Kind, Refusal};
 
-/// Performs calls, puts their answers into lent memory, and tells how many were performed.
+/// Performs calls on a new run, puts their answers into the places lent for them, and returns how many were performed.
 pub fn perform_all<K: Kind, M: LawfulModel>(
     cells: &mut [Cell<K::Row>],
     model: &M,

@@ -14,7 +14,7 @@ pub struct Plan<'c, R> {
     pub forgeries: &'c [(Place, Cell<R>)],
 }
 
-/// Runs a planned round on a run that somebody else holds. Forgeries that are refused are passed over.
+/// Runs a planned round on a run that its caller holds. Forgeries that are refused are passed over.
 pub fn run_round<K: Kind, M: Model>(
     run: &mut Run<K>,
     model: &M,
@@ -29,7 +29,7 @@ pub fn run_round<K: Kind, M: Model>(
     run.close()
 }
 
-/// A whole vote by plans, and then the decisions of two controllers.
+/// A whole vote by plans, and then the decisions of two controllers. The first refusal, but of a forgery, ends it.
 pub fn run_plans<K: Kind, M: LawfulModel>(
     cells: &mut [Cell<K::Row>],
     model: &M,

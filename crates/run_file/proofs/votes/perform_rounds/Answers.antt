@@ -6,7 +6,7 @@ use Rattle.run.specs.declared.run.Run.{Run}
 use Rattle.run.specs.Runs.{setting, state, Keeps}
 use Rattle.run.proofs.Chains.{keeps_all, keeps_more}
 use Rattle.run_file.specs.declared.stops.Stop.{Stop}
-use Rattle.run_file.specs.Files.{word}
+use Rattle.run_file.specs.Files.{number_at}
 use Rattle.run_file.specs.Lines as format
 use Rattle.run_file.specs.Votes.{round_of, rounds_from, run_through}
 use Rattle.run_file.specs.InCode.{lines_in, sets_in, Checked, Stops}
@@ -35,8 +35,8 @@ returns-in_err-lines-clause-performed g c =
     let l = c.loop-set in
     let stop = c.in_err-lines.field-0.0 in
     let rest = sets_in c.in-Some.after in
-    let next : sets_in l.sets ≡ c.word.result ∷ rest = ap (map (λ two. word two 0)) c.in-Some.ensures.pieces ∙ ap (λ set. set ∷ rest) (sym c.word.ensures) in
-    let stops = l.invariant.performed ∙ rounds_stopped m c.args.run.now l.run l.round c.word.result rest (sets_in l.sets) (lines_in l.lines) stop next l.invariant.keeps c.in_err-lines.ensures.performed in
+    let next : sets_in l.sets ≡ c.number_at.result ∷ rest = ap (map (λ two. number_at two 0)) c.in-Some.ensures.pieces ∙ ap (λ set. set ∷ rest) (sym c.number_at.ensures) in
+    let stops = l.invariant.performed ∙ rounds_stopped m c.args.run.now l.run l.round c.number_at.result rest (sets_in l.sets) (lines_in l.lines) stop next l.invariant.keeps c.in_err-lines.ensures.performed in
     let gone : c.from_residual.result ≡ Err stop = search rules in
     rw gone stops
 
@@ -46,7 +46,7 @@ returns-in_err-lines-clause-keeps g c = keeps_more c.args.run.now c.loop-set.run
 pub returns-clause-performed : goal.returns-clause-performed
 returns-clause-performed g c =
     let l = c.loop-set in
-    l.invariant.performed ∙ ap (λ pieces. run_through (setting c.args.run.now) (g.M.Model.meaning c.args.model.now) (state l.run) (rounds_from l.round (map (λ two. word two 0) pieces) (lines_in l.lines))) c.in_default.ensures.0
+    l.invariant.performed ∙ ap (λ pieces. run_through (setting c.args.run.now) (g.M.Model.meaning c.args.model.now) (state l.run) (rounds_from l.round (map (λ two. number_at two 0) pieces) (lines_in l.lines))) c.in_default.ensures.0
 
 pub returns-clause-keeps : goal.returns-clause-keeps
 returns-clause-keeps g c = c.loop-set.invariant.keeps
@@ -57,8 +57,8 @@ loop-set-preserved g c =
     let did = c.in_ok-lines.ensures in
     let split = c.in-Some.ensures in
     let rest = sets_in c.in-Some.after in
-    let next : sets_in l.sets ≡ c.word.result ∷ rest = ap (map (λ two. word two 0)) split.pieces ∙ ap (λ set. set ∷ rest) (sym c.word.ensures) in
-    let goes = rounds_done (g.M.Model.meaning c.args.model.now) c.args.run.now l.run c.perform_round.new.run l.round (l.round + 1) c.word.result rest (sets_in l.sets) (lines_in l.lines) (lines_in c.in_ok-lines.lines)
+    let next : sets_in l.sets ≡ c.number_at.result ∷ rest = ap (map (λ two. number_at two 0)) split.pieces ∙ ap (λ set. set ∷ rest) (sym c.number_at.ensures) in
+    let goes = rounds_done (g.M.Model.meaning c.args.model.now) c.args.run.now l.run c.perform_round.new.run l.round (l.round + 1) c.number_at.result rest (sets_in l.sets) (lines_in l.lines) (lines_in c.in_ok-lines.lines)
     (omega arith) next l.invariant.keeps did.performed did.left.same in
     record {
       set_width = split.width ∙ l.invariant.set_width;

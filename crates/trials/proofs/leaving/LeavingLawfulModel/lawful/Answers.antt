@@ -7,17 +7,17 @@ use Rattle.values.specs.Counting.{tick}
 use Rattle.models.specs.declared.classes.Class.{Class}
 use Rattle.models.specs.declared.classes.Class.TheVariants.{Honest}
 use Rattle.models.specs.Sets.{has}
-use Rattle.models.specs.Laws.{faulty, free, forging}
+use Rattle.models.specs.Laws.{not_honest, free, forger}
 use Rattle.models.proofs.Bounds.{at_most}
 use Rattle.trials.specs.Leaving.{within, left_class}
 use Rattle.trials.proofs.leaving.LeavingLawfulModel.lawful.Goals as goal
 
--- whoever is in the set now was in it before
-was_there : (before now i : ℕ) → within before now ≡ true → tick (has now i) ≤ tick (has before i)
-was_there before now i h =
-    let b = ap (λ x. bit_at x i) (sym (eqb-true (bit_and before now) now h)) ∙ bit_at_and before now i in
+-- whoever is in the set after was in it before
+was_there : (before after i : ℕ) → within before after ≡ true → tick (has after i) ≤ tick (has before i)
+was_there before after i h =
+    let b = ap (λ x. bit_at x i) (sym (eqb-true (bit_and before after) after h)) ∙ bit_at_and before after i in
     let was = bit_at-lt before i in
-    let is = bit_at-lt now i in
+    let is = bit_at-lt after i in
     grind (arith, nat_tests)
 
 was : (is : Bool) → left_class true is ≡ Honest → ⊥
@@ -28,13 +28,13 @@ weight q h a b le = grind arith
 
 pub returns : goal.returns
 returns c = record {
-  keeps = λ before now t v.
-      let k = λ (q : Class → Bool) (h : q Honest ≡ false). at_most (λ i. q (left_class (has before i) (has now i))) 1 0 v (λ i _. weight q h (has before i) (has now i) (was_there before now i v.may)) in record {
-        seated_before = λ i _ h e. was (has now i) (sym (ap (λ a. left_class a (has now i)) h) ∙ e);
+  keeps = λ before after t v.
+      let k = λ (q : Class → Bool) (h : q Honest ≡ false). at_most (λ i. q (left_class (has before i) (has after i))) 1 0 v (λ i _. weight q h (has before i) (has after i) (was_there before after i v.may)) in record {
+        seated_before = λ i _ h e. was (has after i) (sym (ap (λ a. left_class a (has after i)) h) ∙ e);
         never_seated = λ i _ h n. ap₂ left_class h n;
-        faults = omega (arith, k faulty refl);
+        faults = omega (arith, k not_honest refl);
         frees = omega (arith, k free refl);
-        forgers = omega (arith, k forging refl);
+        forgers = omega (arith, k forger refl);
       };
   stays = λ set t _. eq-eqb (bit_and set set) set (and_self set);
 }
