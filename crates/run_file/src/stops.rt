@@ -10,7 +10,7 @@ use values::Refusal;
 pub struct Stop {
     /// Why the file is refused, or a call that it asks for.
     pub refusal: Refusal,
-    /// The round that the refused call belongs to; an open belongs to none.
+    /// The round that the refused call belongs to; none for an open, and where no call was refused.
     pub round: Option<u16>,
 }
 
