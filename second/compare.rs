@@ -55,7 +55,7 @@ impl Comparison {
         Ok(differing == 0 && complete)
     }
 
-    /// Whether the program answers as we do. A difference is printed, unless
+    /// Whether the program writes what we do. A difference is printed, unless
     /// enough of them were.
     fn alike(&self, name: &str, bytes: &[u8], listing: &Listing, shown: usize) -> io::Result<bool> {
         let theirs = ask(&self.program, bytes)?;

@@ -85,19 +85,19 @@ fn calls_and_room_bound_each_other(rt: HostRuntime) {
         initial: Set(0),
     };
     let calls = [Call::Open(opening), Call::Seat(Set(0)), Call::Close];
-    for room in 0..5 {
+    for places in 0..5 {
         let mut cells = [Some(777); 8];
         let mut answers = [LEFT; 5];
         let count = play::<Setpoint, Standard>(
             &mut cells,
             &Standard::Aware,
             &calls,
-            &mut answers[..room],
+            &mut answers[..places],
         );
-        assert_eq!(rt; count, room.min(3));
+        assert_eq!(rt; count, places.min(3));
         for at in 0..5 {
             let outcome = if at < count { Ok(Answer::Done) } else { LEFT };
-            assert_eq!(rt; answers[at], outcome, "at {at} with room for {room}");
+            assert_eq!(rt; answers[at], outcome, "at {at} of {places} places");
         }
         assert!(rt; count > 0 || cells == [Some(777); 8]);
     }

@@ -49,7 +49,7 @@ fn a_row_over_the_whole_stands_for_the_fallback(rt: HostRuntime) {
 }
 
 #[test]
-fn text_is_four_numbers_parted_by_a_blank(rt: HostRuntime) {
+fn text_is_four_numbers_separated_by_a_blank(rt: HostRuntime) {
     let mut room = [b'.'; 18];
     let mut out = Buffer::over(&mut room);
     Sheet::value(&shares(400, 300, 0, 17)).write(&mut out);
