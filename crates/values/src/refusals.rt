@@ -45,7 +45,7 @@ pub enum Refusal {
     /// A forgery line's round is R or above, or is below that of the line before; or its tag is above 1; or the tag is
     /// 0 and a byte of the value is not.
     ForgeryLine = 25,
-    /// The text buffer is smaller than 512 bytes.
+    /// The room for the text is under 512 bytes.
     TextRoom = 26,
 }
 
@@ -94,7 +94,7 @@ impl Refusal {
             Refusal::ForgeryLine => {
                 "a forgery line is for a round that the file lacks, is out of order, has a tag above 1, or has tag 0 and yet a value"
             }
-            Refusal::TextRoom => "a listing needs a text buffer of at least 512 bytes",
+            Refusal::TextRoom => "a listing needs room for at least 512 bytes of text",
         }
     }
 }
