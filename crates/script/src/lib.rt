@@ -1,0 +1,12 @@
+//! Scripts: lists of calls as text, one a line. docs/BENCH.md says what a script may have.
+#![tactic(auto)]
+
+mod figures;
+mod flaws;
+mod scripts;
+mod statements;
+
+pub use figures::Figure;
+pub use flaws::{Expected, Flaw, Wrong};
+pub use scripts::{House, Line, ValueKind};
+pub use statements::Statement;

@@ -1,0 +1,3 @@
+pub mod Layers
+pub mod Rows
+pub mod Outcomes

@@ -1,0 +1,46 @@
+use models::{Class, Counts, LawfulModel, Model as FaultModel, Moved, Standard, Stamped};
+
+/// A model of the table under any number of stamp layers.
+#[derive(Clone, Copy, PartialEq, Eq, Debug)]
+pub struct Layered {
+    /// The model below the stamps.
+    pub base: Standard,
+    /// How many layers of stamps there are.
+    pub layers: usize,
+}
+
+impl FaultModel for Layered {
+    ghost use Rattle.std.proofs.Common.{rules};
+    ghost use Rattle.transcript.specs.Layers.{layered};
+
+    ghost meaning = { layered };
+
+    ghost bounded = { Prim.search rules };
+
+    ghost capped = { Prim.search rules };
+
+    fn allows(&self, moved: Moved) -> bool {
+        self.base.allows(moved)
+    }
+
+    // Stamps on stamps change nothing more.
+    fn class(&self, moved: Moved, controller: usize) -> Class {
+        if self.layers == 0 {
+            self.base.class(moved, controller)
+        } else {
+            Stamped(self.base).class(moved, controller)
+        }
+    }
+
+    fn counts(&self, t: usize) -> Counts {
+        if self.layers == 0 {
+            self.base.counts(t)
+        } else {
+            Stamped(self.base).counts(t)
+        }
+    }
+}
+
+impl LawfulModel for Layered {
+    fn lawful(&self) {}
+}

@@ -1,0 +1,10 @@
+//! Transcripts: performing a script, and telling what each call was answered. docs/BENCH.md says how one looks.
+#![tactic(auto)]
+
+mod layers;
+mod outcomes;
+mod rows;
+
+pub use layers::Layered;
+pub use outcomes::{Decisions, Outcome};
+pub use rows::Scripted;
