@@ -1,0 +1,2 @@
+mod Cutting
+mod Numbering

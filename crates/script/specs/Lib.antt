@@ -2,3 +2,5 @@ pub mod Words
 pub mod Numbers
 pub mod Figures
 pub mod Statements
+pub mod Lines
+pub mod InCode

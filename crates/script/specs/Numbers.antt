@@ -34,7 +34,7 @@ is_comma b = b == 44
 abbrev pub is_figure_size : List (List ℕ) → Bool
 is_figure_size parts = length parts == 1 || length parts == 4
 
-abbrev figure_in : List (List ℕ) → Option (List ℕ)
+abbrev pub figure_in : List (List ℕ) → Option (List ℕ)
 figure_in parts = if is_figure_size parts then numbers_below (2 ^ 16) parts else None
 
 abbrev pub figure_of : List ℕ → Option (List ℕ)
@@ -55,7 +55,7 @@ braced word = if nat_lt 1 (length word) && slice_index word 0 == 123 && slice_in
 abbrev pub members_of : List ℕ → Option (List ℕ)
 members_of inside = if length inside == 0 then Some [] else numbers_below MOST_CONTROLLERS (slice_split is_comma inside)
 
-abbrev set_in : List ℕ → Option ℕ
+abbrev pub set_in : List ℕ → Option ℕ
 set_in inside = option_map set_with (members_of inside)
 
 abbrev pub set_of : List ℕ → Option ℕ

@@ -3,8 +3,11 @@
 
 mod figures;
 mod flaws;
+mod numbers;
+mod reading;
 mod scripts;
 mod statements;
+mod words;
 
 pub use figures::Figure;
 pub use flaws::{Expected, Flaw, Wrong};
