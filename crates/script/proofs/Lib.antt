@@ -1,2 +1,5 @@
 mod Cutting
 mod Numbering
+mod Setting
+mod Rereading
+mod RereadingCalls

@@ -4,3 +4,4 @@ pub mod Figures
 pub mod Statements
 pub mod Lines
 pub mod InCode
+pub mod Written

@@ -8,6 +8,7 @@ mod reading;
 mod scripts;
 mod statements;
 mod words;
+mod writing;
 
 pub use figures::Figure;
 pub use flaws::{Expected, Flaw, Wrong};

@@ -1,0 +1,164 @@
+ghost use Rattle.std.specs.Prelude.{◌≡◌, if◌then◌else◌, [], ◌∷◌, ◌++◌, map, decimal, string_bytes, OnOk};
+ghost use Rattle.std.specs.Option.{option_map};
+ghost use Rattle.script.specs.Figures.{numbers_of};
+ghost use Rattle.script.specs.Written.{written_figure, written_set, written_cell, behind_blanks};
+
+use crate::figures::Figure;
+use crate::statements::Statement;
+use models::{MOST_CONTROLLERS, Set};
+use run::Place;
+use std::alloc::AllocError;
+use values::{Cell, Shares};
+
+/// Adds a number in decimal.
+pub fn put_number(number: usize, out: &mut String) -> Result<(), AllocError>
+    ensures { OnOk result (string_bytes out.new ≡ string_bytes out.old ++ decimal number) }
+{
+    let mut digits = itoa::Buffer::new();
+    out.push_str(digits.format(number))
+}
+
+/// Adds a figure: its numbers, with a slash between two.
+pub fn put_figure(figure: Figure, out: &mut String) -> Result<(), AllocError>
+    ensures { OnOk result (string_bytes out.new ≡ string_bytes out.old ++ written_figure (numbers_of figure)) }
+{
+    match figure {
+        Figure::Setpoint(tenths) => put_number(tenths.into(), out),
+        Figure::Sheet(shares) => put_shares(shares, out),
+    }
+}
+
+fn put_shares(shares: Shares, out: &mut String) -> Result<(), AllocError>
+    ensures { OnOk result (string_bytes out.new ≡ string_bytes out.old ++ written_figure (numbers_of (Figure.Sheet shares))) }
+{
+    put_number(shares.zone0.into(), out)?;
+    out.push_str("/")?;
+    put_number(shares.zone1.into(), out)?;
+    out.push_str("/")?;
+    put_number(shares.zone2.into(), out)?;
+    out.push_str("/")?;
+    put_number(shares.zone3.into(), out)
+}
+
+// Adds a member of a set, behind a comma unless it is the first.
+fn put_member(first: bool, member: usize, out: &mut String) -> Result<(), AllocError>
+    ensures { OnOk result (string_bytes out.new ≡ string_bytes out.old ++ ((if first then [] else 44 ∷ []) ++ decimal member)) }
+{
+    if !first {
+        out.push_str(",")?;
+    }
+    put_number(member, out)
+}
+
+/// Adds a set: its members between braces, with a comma between two.
+pub fn put_set(set: Set, out: &mut String) -> Result<(), AllocError>
+    ensures { OnOk result (string_bytes out.new ≡ string_bytes out.old ++ written_set set.0) }
+{
+    out.push_str("{")?;
+    let mut first = true;
+    for controller in 0..MOST_CONTROLLERS {
+        if set.holds(controller) {
+            put_member(first, controller, out)?;
+            first = false;
+        }
+    }
+    out.push_str("}")
+}
+
+/// Adds a cell: its figure, or the word `empty`.
+pub fn put_cell(cell: Cell<Figure>, out: &mut String) -> Result<(), AllocError>
+    ensures { OnOk result (string_bytes out.new ≡ string_bytes out.old ++ written_cell (option_map numbers_of cell)) }
+{
+    match cell {
+        None => out.push_str("empty"),
+        Some(figure) => put_figure(figure, out),
+    }
+}
+
+// Adds a word behind a blank.
+fn put_number_behind(number: usize, out: &mut String) -> Result<(), AllocError>
+    ensures { OnOk result (string_bytes out.new ≡ string_bytes out.old ++ (32 ∷ decimal number)) }
+{
+    out.push_str(" ")?;
+    put_number(number, out)
+}
+
+fn put_set_behind(set: Set, out: &mut String) -> Result<(), AllocError>
+    ensures { OnOk result (string_bytes out.new ≡ string_bytes out.old ++ (32 ∷ written_set set.0)) }
+{
+    out.push_str(" ")?;
+    put_set(set, out)
+}
+
+// Adds the figures, each behind a blank.
+fn put_figures(figures: &[Figure], out: &mut String) -> Result<(), AllocError>
+    ensures { OnOk result (string_bytes out.new ≡ string_bytes out.old ++ behind_blanks (map written_figure (map numbers_of figures.now))) }
+{
+    for figure in figures {
+        out.push_str(" ")?;
+        put_figure(*figure, out)?;
+    }
+    Ok(())
+}
+
+// Adds what an open takes, word by word.
+fn put_opening(
+    n: usize,
+    t: usize,
+    initial: Set,
+    proposals: &[Figure],
+    out: &mut String,
+) -> Result<(), AllocError>
+    ensures { OnOk result (string_bytes out.new ≡ string_bytes out.old ++ behind_blanks (decimal n ∷ decimal t ∷ written_set initial.0 ∷ map written_figure (map numbers_of proposals.now))) }
+{
+    put_number_behind(n, out)?;
+    put_number_behind(t, out)?;
+    put_set_behind(initial, out)?;
+    put_figures(proposals, out)
+}
+
+fn put_place(place: Place, out: &mut String) -> Result<(), AllocError>
+    ensures { OnOk result (string_bytes out.new ≡ string_bytes out.old ++ ((32 ∷ decimal place.sender) ++ ((32 ∷ decimal place.receiver) ++ (32 ∷ decimal place.column)))) }
+{
+    put_number_behind(place.sender, out)?;
+    put_number_behind(place.receiver, out)?;
+    put_number_behind(place.column, out)
+}
+
+impl Statement<Figure> {
+    ghost use Rattle.std.specs.Prelude.{◌≡◌, ◌++◌, string_bytes, OnOk};
+    ghost use Rattle.script.specs.Written.{written};
+    ghost use Rattle.script.specs.Statements.{written_call};
+
+    /// Adds the call as a line of a script has it: its words, with a blank between two.
+    pub fn write(&self, out: &mut String) -> Result<(), AllocError>
+        ensures { OnOk result (string_bytes out.new ≡ string_bytes out.old ++ written (written_call self.now)) }
+    {
+        match self {
+            Statement::Open {
+                n,
+                t,
+                initial,
+                proposals,
+            } => {
+                out.push_str("open")?;
+                put_opening(*n, *t, *initial, proposals, out)
+            }
+            Statement::Seat(set) => {
+                out.push_str("seat")?;
+                put_set_behind(*set, out)
+            }
+            Statement::Forge(place, cell) => {
+                out.push_str("forge")?;
+                put_place(*place, out)?;
+                out.push_str(" ")?;
+                put_cell(*cell, out)
+            }
+            Statement::Close => out.push_str("close"),
+            Statement::Decision(controller) => {
+                out.push_str("decision")?;
+                put_number_behind(*controller, out)
+            }
+        }
+    }
+}
