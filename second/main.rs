@@ -2,6 +2,7 @@
 //! the publications and docs/FORMAT.md, and set beside the first.
 
 mod adversaries;
+mod benches;
 mod compare;
 mod examples;
 mod files;
@@ -9,19 +10,25 @@ mod flaws;
 mod listings;
 mod makers;
 mod models;
+mod packing;
 mod refusals;
 mod rng;
 mod runs;
+mod scripts;
 #[cfg(test)]
 mod tests;
+mod transcripts;
 mod values;
 mod votes;
 
+use std::fmt::Display;
 use std::io::{self, Read, Write};
 use std::path::Path;
 use std::process::ExitCode;
 
 use compare::Comparison;
+use scripts::Script;
+use transcripts::Transcript;
 use values::Kind;
 
 /// Enough to tell that a file is too long.
@@ -47,8 +54,11 @@ fn main() -> ExitCode {
     }
 }
 
+/// Whether all went well, or why nothing could be done.
+type Done = Result<bool, Box<dyn std::error::Error>>;
+
 /// Whether all went well; an error if the command could not be performed.
-fn perform(words: &[&str]) -> Result<bool, Box<dyn std::error::Error>> {
+fn perform(words: &[&str]) -> Done {
     match *words {
         ["list"] => Ok(list()?),
         ["compare", program, seed, count, ref files @ ..] => {
@@ -62,6 +72,8 @@ fn perform(words: &[&str]) -> Result<bool, Box<dyn std::error::Error>> {
             .run()?)
         }
         ["make", seed, index] => write(&makers::make(seed.parse()?, index.parse()?).bytes),
+        ["replay"] => replay(),
+        ["pack"] => pack(),
         ["examples", folder] => {
             examples::write_all(Path::new(folder))?;
             Ok(true)
@@ -80,7 +92,37 @@ fn list() -> io::Result<bool> {
     Ok(listing.is_ok())
 }
 
-fn write(bytes: &[u8]) -> Result<bool, Box<dyn std::error::Error>> {
+fn replay() -> Done {
+    match Script::read(&standard_input()?) {
+        Ok(script) => write(Transcript::of(&script).to_string().as_bytes()),
+        Err(flaws) => tell(&flaws),
+    }
+}
+
+fn pack() -> Done {
+    match Script::read(&standard_input()?) {
+        Ok(script) => match packing::pack(&script) {
+            Ok(draft) => write(&draft.bytes()),
+            Err(flaw) => tell(&flaw),
+        },
+        Err(flaws) => tell(&flaws),
+    }
+}
+
+/// All of it, however long it is.
+fn standard_input() -> io::Result<Vec<u8>> {
+    let mut bytes = Vec::new();
+    io::stdin().read_to_end(&mut bytes)?;
+    Ok(bytes)
+}
+
+/// Tells what is wrong with the input.
+fn tell(flaws: &impl Display) -> Done {
+    io::stderr().write_all(flaws.to_string().as_bytes())?;
+    Ok(false)
+}
+
+fn write(bytes: &[u8]) -> Done {
     io::stdout().write_all(bytes)?;
     Ok(true)
 }
