@@ -103,8 +103,8 @@ pub fn sound(frame: Frame, style: Style, rng: &Rng) -> Draft {
     draft
 }
 
-/// The few values of one file. The first is the one the adversary counts.
-fn palette(kind: Kind, rng: &Rng) -> Vec<Value> {
+/// The few values of one file or script. The first is the one the adversary counts.
+pub fn palette(kind: Kind, rng: &Rng) -> Vec<Value> {
     let mut values = match kind {
         Kind::Setpoint => setpoints(rng),
         Kind::Sheet => sheets(rng),

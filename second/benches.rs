@@ -36,7 +36,7 @@ pub enum Answer {
 pub type Answered = Result<Answer, Refusal>;
 
 /// Where a run stands.
-#[derive(Default)]
+#[derive(Clone, Default)]
 pub enum Turn {
     #[default]
     Idle,
@@ -45,6 +45,7 @@ pub enum Turn {
 }
 
 /// A run over a store of so many cells. Open and seat name the one model.
+#[derive(Clone)]
 pub struct Bench {
     kind: Kind,
     model: Model,

@@ -3,17 +3,23 @@
 
 mod adversaries;
 mod benches;
+mod call_makers;
 mod compare;
+mod compare_scripts;
 mod examples;
+mod features;
 mod files;
 mod flaws;
+mod line_makers;
 mod listings;
 mod makers;
 mod models;
 mod packing;
 mod refusals;
+mod replies;
 mod rng;
 mod runs;
+mod script_makers;
 mod scripts;
 #[cfg(test)]
 mod tests;
@@ -21,14 +27,13 @@ mod transcripts;
 mod values;
 mod votes;
 
-use std::fmt::Display;
 use std::io::{self, Read, Write};
 use std::path::Path;
 use std::process::ExitCode;
 
 use compare::Comparison;
-use scripts::Script;
-use transcripts::Transcript;
+use compare_scripts::ScriptComparison;
+use replies::Reply;
 use values::Kind;
 
 /// Enough to tell that a file is too long.
@@ -72,8 +77,31 @@ fn perform(words: &[&str]) -> Done {
             .run()?)
         }
         ["make", seed, index] => write(&makers::make(seed.parse()?, index.parse()?).bytes),
-        ["replay"] => replay(),
-        ["pack"] => pack(),
+        [
+            "compare-scripts",
+            replay,
+            pack,
+            listing,
+            seed,
+            count,
+            ref files @ ..,
+        ] => {
+            let files = files.iter().map(Into::into).collect();
+            Ok(ScriptComparison {
+                replay: replay.into(),
+                pack: pack.into(),
+                listing: listing.into(),
+                seed: seed.parse()?,
+                count: count.parse()?,
+                files,
+            }
+            .run()?)
+        }
+        ["make-script", seed, index] => {
+            write(&script_makers::make(seed.parse()?, index.parse()?).text)
+        }
+        ["replay"] => give(transcripts::replay(&standard_input()?)),
+        ["pack"] => give(packing::pack_text(&standard_input()?)),
         ["examples", folder] => {
             examples::write_all(Path::new(folder))?;
             Ok(true)
@@ -92,23 +120,6 @@ fn list() -> io::Result<bool> {
     Ok(listing.is_ok())
 }
 
-fn replay() -> Done {
-    match Script::read(&standard_input()?) {
-        Ok(script) => write(Transcript::of(&script).to_string().as_bytes()),
-        Err(flaws) => tell(&flaws),
-    }
-}
-
-fn pack() -> Done {
-    match Script::read(&standard_input()?) {
-        Ok(script) => match packing::pack(&script) {
-            Ok(draft) => write(&draft.bytes()),
-            Err(flaw) => tell(&flaw),
-        },
-        Err(flaws) => tell(&flaws),
-    }
-}
-
 /// All of it, however long it is.
 fn standard_input() -> io::Result<Vec<u8>> {
     let mut bytes = Vec::new();
@@ -116,10 +127,10 @@ fn standard_input() -> io::Result<Vec<u8>> {
     Ok(bytes)
 }
 
-/// Tells what is wrong with the input.
-fn tell(flaws: &impl Display) -> Done {
-    io::stderr().write_all(flaws.to_string().as_bytes())?;
-    Ok(false)
+fn give(reply: Reply) -> Done {
+    io::stdout().write_all(&reply.output)?;
+    io::stderr().write_all(&reply.messages)?;
+    Ok(reply.status == Some(0))
 }
 
 fn write(bytes: &[u8]) -> Done {

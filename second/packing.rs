@@ -4,6 +4,7 @@ use std::fmt;
 
 use crate::benches::Call;
 use crate::files::{Draft, LONGEST, length};
+use crate::replies::Reply;
 use crate::runs::{MOST_CELLS, Opening, Place};
 use crate::scripts::{Numbered, Script};
 use crate::values::Kind;
@@ -57,6 +58,17 @@ impl fmt::Display for PackFlaw {
 impl fmt::Display for Numbered<PackFlaw> {
     fn fmt(&self, f: &mut fmt::Formatter) -> fmt::Result {
         writeln!(f, "line {}: {}", self.line, self.what)
+    }
+}
+
+/// The run file of a script that is given as a text.
+pub fn pack_text(text: &[u8]) -> Reply {
+    match Script::read(text) {
+        Ok(script) => match pack(&script) {
+            Ok(draft) => Reply::with(draft.bytes()),
+            Err(flaw) => Reply::without(&flaw),
+        },
+        Err(flaws) => Reply::without(&flaws),
     }
 }
 

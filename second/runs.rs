@@ -65,6 +65,7 @@ impl Opening {
 }
 
 /// A run between two rounds.
+#[derive(Clone)]
 pub struct Run {
     pub model: Model,
     pub quorums: Quorums,
@@ -111,11 +112,6 @@ impl Run {
 
     pub fn t(&self) -> usize {
         self.t
-    }
-
-    /// The number of the round that comes next.
-    pub fn round(&self) -> usize {
-        self.round
     }
 
     /// Who was seated in the last closed round.
@@ -191,6 +187,7 @@ pub struct Place {
 }
 
 /// A round under way.
+#[derive(Clone)]
 pub struct Round {
     run: Run,
     pub number: usize,

@@ -2,8 +2,10 @@
 
 use std::fmt;
 
-use crate::benches::{Answer, Answered, Bench, Call, Turn};
+use crate::benches::{Answer, Answered, Bench, Call, CallName, Turn};
 use crate::models::Set;
+use crate::refusals::Refusal;
+use crate::replies::Reply;
 use crate::runs::Round;
 use crate::scripts::{Head, Script};
 use crate::values::Value;
@@ -43,6 +45,14 @@ pub enum Filled {
     Apart,
 }
 
+/// The transcript of a script that is given as a text.
+pub fn replay(text: &[u8]) -> Reply {
+    match Script::read(text) {
+        Ok(script) => Reply::with(Transcript::of(&script).to_string().into_bytes()),
+        Err(flaws) => Reply::without(&flaws),
+    }
+}
+
 impl Transcript {
     pub fn of(script: &Script) -> Transcript {
         let mut bench = Bench::new(script.head.kind, script.head.model(), script.store());
@@ -65,6 +75,29 @@ impl Transcript {
             entries,
             closed,
         }
+    }
+
+    /// The lines that a listing has for whoever was asked behind the last close;
+    /// nothing where another call was refused, or no block was opened.
+    pub fn decided_lines(&self) -> Option<Vec<String>> {
+        let asks = |call: &Call| call.name() == CallName::Decision;
+        let mut entries = self.entries.iter();
+        let accepted = entries.all(|entry| entry.answered.is_ok() || asks(&entry.call));
+        let asked = self
+            .entries
+            .iter()
+            .rev()
+            .map_while(|entry| match entry.call {
+                Call::Decision(controller) => Some((controller, entry.answered)),
+                _ => None,
+            });
+        let lines = asked.filter_map(|(controller, answered)| match answered {
+            Ok(Answer::Decision(Some(value))) => Some(format!("{controller} {value}")),
+            Ok(Answer::Decision(None)) => Some(format!("{controller} none")),
+            Err(Refusal::WasSeated) => Some(format!("{controller} upset")),
+            _ => None,
+        });
+        accepted.then(|| lines.collect())
     }
 }
 
