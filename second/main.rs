@@ -6,6 +6,7 @@ mod benches;
 mod call_makers;
 mod compare;
 mod compare_scripts;
+mod example_scripts;
 mod examples;
 mod features;
 mod files;
@@ -20,6 +21,8 @@ mod replies;
 mod rng;
 mod runs;
 mod script_makers;
+#[cfg(test)]
+mod script_tests;
 mod scripts;
 #[cfg(test)]
 mod tests;
@@ -43,6 +46,11 @@ const USAGE: &str =
     "second list                                   lists the run file on standard input
 second compare PROGRAM SEED COUNT [FILE..]    sets PROGRAM beside this one
 second make SEED INDEX                        writes a made file
+second replay                                 performs the script on standard input
+second pack                                   writes that script as a run file
+second compare-scripts REPLAY PACK LISTING SEED COUNT [FILE..]
+                                              sets three programs beside this one
+second make-script SEED INDEX                 writes a made script
 second examples DIR                           writes the examples
 second heaviest [setpoints|sheets]            writes a sound file that takes much work";
 
@@ -104,6 +112,7 @@ fn perform(words: &[&str]) -> Done {
         ["pack"] => give(packing::pack_text(&standard_input()?)),
         ["examples", folder] => {
             examples::write_all(Path::new(folder))?;
+            example_scripts::write_all(Path::new(folder))?;
             Ok(true)
         }
         ["heaviest"] | ["heaviest", "sheets"] => write(&makers::heaviest(Kind::Sheet)),
