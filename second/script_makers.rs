@@ -249,17 +249,18 @@ impl ScriptMaker<'_> {
         }
         let room = LONGEST - length(kind, 1, rounds, 0);
         let at = 2 * rng.between(1, rounds);
-        let forge = Call::Forge(
-            Place {
+        let forge = |column| {
+            let place = Place {
                 sender: 0,
                 receiver: 0,
-                column: 0,
-            },
-            None,
-        );
+                column,
+            };
+            Call::Forge(place, None)
+        };
         let lines = room / line_width(kind);
-        let over = rng.percent(40);
-        let forges = std::iter::repeat_n(forge, lines + usize::from(over));
+        // The one too many may have a number that is too large as well.
+        let over = rng.percent(40).then(|| forge(rng.pick(&[0, 0, 256])));
+        let forges = std::iter::repeat_n(forge(0), lines).chain(over);
         calls.splice(at..at, forges);
         // What is left is less than a line, but may be enough for some rounds.
         let left = (room - lines * line_width(kind)) / 2;
