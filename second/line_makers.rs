@@ -6,10 +6,11 @@ use crate::rng::Rng;
 use crate::scripts::LineFlaw;
 use crate::values::Kind;
 
-/// Lays a flaw into the lines of a script, which are one at least.
+/// Lays a flaw into the lines of a script, which are one at least before and
+/// after.
 pub fn lay(flaw: LineFlaw, lines: &mut Vec<String>, kind: Kind, rng: &Rng) {
     match flaw {
-        LineFlaw::Kind if rng.percent(20) => drop(lines.remove(0)),
+        LineFlaw::Kind if lines.len() > 1 && rng.percent(20) => drop(lines.remove(0)),
         LineFlaw::Kind | LineFlaw::Model | LineFlaw::Stamped => {
             lines[0] = flawed_head(flaw, &lines[0], rng)
         }
@@ -157,66 +158,73 @@ fn unlawful(kind: Kind, rng: &Rng) -> String {
 
 /// A line with this flaw, and now and then with more to the right of it.
 fn flawed_line(flaw: LineFlaw, kind: Kind, rng: &Rng) -> String {
-    let value = any_value(kind, rng).word();
     let later = rng.pick(&["", "", "", " 5", " {}", " x"]);
     match flaw {
-        LineFlaw::Number => {
-            let bad = no_number(rng);
-            let line = rng.pick(&[
-                "open @",
-                "open 1 @",
-                "forge @",
-                "forge 1 @",
-                "forge 0 1 @",
-                "decision @",
-            ]);
-            format!("{}{later}", line.replace('@', bad))
+        LineFlaw::Number => flawed_number(rng) + later,
+        LineFlaw::Set => {
+            let call = rng.pick(&["seat", "open 3 0"]);
+            format!("{call} {}{later}", no_set(rng))
         }
-        LineFlaw::Set => format!("{} {}{later}", rng.pick(&["seat", "open 3 0"]), no_set(rng)),
-        LineFlaw::Proposal => {
-            let bad = rng.pick(&["empty", no_value(rng), no_value(rng)]);
-            let first = rng.pick(&[
-                format!("{value} "),
-                format!("{} ", unlawful(kind, rng)),
-                String::new(),
-            ]);
-            format!("open 3 0 {{}} {first}{bad}{later}")
+        LineFlaw::Proposal => flawed_proposal(kind, rng) + later,
+        LineFlaw::Cell => {
+            let cell = rng.pick(&["", no_value(rng), no_value(rng)]);
+            format!("forge 0 0 0 {cell}{later}")
         }
-        LineFlaw::Cell => format!(
-            "forge 0 0 0 {}{later}",
-            rng.pick(&["", no_value(rng), no_value(rng)])
-        ),
-        LineFlaw::Surplus => {
-            let line = rng.pick(&["seat {}", "close", "decision 0", "forge 0 0 0 empty"]);
-            let line = rng.pick(&[
-                line.to_string(),
-                format!("forge 0 0 0 {}", unlawful(kind, rng)),
-            ]);
-            format!("{line} {}", rng.pick(&["0", "{}", "close", "x", "stamped"]))
-        }
+        LineFlaw::Surplus => surplus(kind, rng),
         LineFlaw::Unlawful => {
             let bad = unlawful(kind, rng);
-            rng.pick(&[
-                format!("open 2 0 {{}} {value} {bad}"),
-                format!("forge 0 0 0 {bad}"),
-            ])
+            let good = any_value(kind, rng).word();
+            let line = rng.pick(&["open 2 0 {} + -", "open 2 0 {} - +", "forge 0 0 0 -"]);
+            line.replace('+', &good).replace('-', &bad)
         }
-        _ => {
-            let word = rng.pick(&[
-                "opens",
-                "Close",
-                "seated",
-                "setpoint",
-                "decide",
-                "forge,",
-                "{}",
-                "500",
-                "\u{b}close",
-                "stamped",
-            ]);
-            format!("{word}{later}")
-        }
+        _ => no_call(rng).to_string() + later,
     }
+}
+
+fn flawed_number(rng: &Rng) -> String {
+    let lines = [
+        "open @",
+        "open 1 @",
+        "forge @",
+        "forge 1 @",
+        "forge 0 1 @",
+        "decision @",
+    ];
+    rng.pick(&lines).replace('@', no_number(rng))
+}
+
+/// Behind a value or another that breaks its rule, or behind none.
+fn flawed_proposal(kind: Kind, rng: &Rng) -> String {
+    let first = rng.pick(&[
+        any_value(kind, rng).word(),
+        unlawful(kind, rng),
+        String::new(),
+    ]);
+    let bad = rng.pick(&["empty", no_value(rng), no_value(rng)]);
+    format!("open 3 0 {{}} {first} {bad}")
+}
+
+/// Perhaps with a value that breaks its rule, of which nothing is told then.
+fn surplus(kind: Kind, rng: &Rng) -> String {
+    let line = rng.pick(&["seat {}", "close", "decision 0", "forge 0 0 0 empty"]);
+    let forge = format!("forge 0 0 0 {}", unlawful(kind, rng));
+    let more = rng.pick(&["0", "{}", "close", "x", "stamped"]);
+    format!("{} {more}", rng.pick(&[line, &forge]))
+}
+
+fn no_call(rng: &Rng) -> &'static str {
+    rng.pick(&[
+        "opens",
+        "Close",
+        "seated",
+        "setpoint",
+        "decide",
+        "forge,",
+        "{}",
+        "500",
+        "\u{b}close",
+        "stamped",
+    ])
 }
 
 /// How a script is written.

@@ -74,16 +74,7 @@ type Done = Result<bool, Box<dyn std::error::Error>>;
 fn perform(words: &[&str]) -> Done {
     match *words {
         ["list"] => Ok(list()?),
-        ["compare", program, seed, count, ref files @ ..] => {
-            let files = files.iter().map(Into::into).collect();
-            Ok(Comparison {
-                program: program.into(),
-                seed: seed.parse()?,
-                count: count.parse()?,
-                files,
-            }
-            .run()?)
-        }
+        ["compare", program, seed, count, ref files @ ..] => compare(program, [seed, count], files),
         ["make", seed, index] => write(&makers::make(seed.parse()?, index.parse()?).bytes),
         [
             "compare-scripts",
@@ -93,18 +84,7 @@ fn perform(words: &[&str]) -> Done {
             seed,
             count,
             ref files @ ..,
-        ] => {
-            let files = files.iter().map(Into::into).collect();
-            Ok(ScriptComparison {
-                replay: replay.into(),
-                pack: pack.into(),
-                listing: listing.into(),
-                seed: seed.parse()?,
-                count: count.parse()?,
-                files,
-            }
-            .run()?)
-        }
+        ] => compare_scripts([replay, pack, listing], [seed, count], files),
         ["make-script", seed, index] => {
             write(&script_makers::make(seed.parse()?, index.parse()?).text)
         }
@@ -119,6 +99,29 @@ fn perform(words: &[&str]) -> Done {
         ["heaviest", "setpoints"] => write(&makers::heaviest(Kind::Setpoint)),
         _ => Err(format!("no such command\n{USAGE}").into()),
     }
+}
+
+fn compare(program: &str, [seed, count]: [&str; 2], files: &[&str]) -> Done {
+    let comparison = Comparison {
+        program: program.into(),
+        seed: seed.parse()?,
+        count: count.parse()?,
+        files: files.iter().map(Into::into).collect(),
+    };
+    Ok(comparison.run()?)
+}
+
+fn compare_scripts(programs: [&str; 3], [seed, count]: [&str; 2], files: &[&str]) -> Done {
+    let [replay, pack, listing] = programs.map(Into::into);
+    let comparison = ScriptComparison {
+        replay,
+        pack,
+        listing,
+        seed: seed.parse()?,
+        count: count.parse()?,
+        files: files.iter().map(Into::into).collect(),
+    };
+    Ok(comparison.run()?)
 }
 
 fn list() -> io::Result<bool> {

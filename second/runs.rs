@@ -186,6 +186,16 @@ pub struct Place {
     pub column: usize,
 }
 
+impl Place {
+    pub fn new(sender: usize, receiver: usize, column: usize) -> Place {
+        Place {
+            sender,
+            receiver,
+            column,
+        }
+    }
+}
+
 /// A round under way.
 #[derive(Clone)]
 pub struct Round {

@@ -124,15 +124,13 @@ impl ScriptMaker<'_> {
     }
 
     fn script(&self, recipe: Recipe) -> Script {
-        let large = [
-            None,
-            Some(MOST_CELLS),
-            Some(MOST_CELLS + 1),
-            Some(usize::MAX),
-        ];
-        let cells =
-            self.rng
-                .weighted(&[(6, large[0]), (2, large[1]), (1, large[2]), (1, large[3])]);
+        // Enough for every block.
+        let cells = self.rng.weighted(&[
+            (6, None),
+            (2, Some(MOST_CELLS)),
+            (1, Some(MOST_CELLS + 1)),
+            (1, Some(usize::MAX)),
+        ]);
         match recipe {
             Recipe::Any => self.any(),
             Recipe::Questioned => Script::new(self.head, cells, self.questioned()),
@@ -249,14 +247,7 @@ impl ScriptMaker<'_> {
         }
         let room = LONGEST - length(kind, 1, rounds, 0);
         let at = 2 * rng.between(1, rounds);
-        let forge = |column| {
-            let place = Place {
-                sender: 0,
-                receiver: 0,
-                column,
-            };
-            Call::Forge(place, None)
-        };
+        let forge = |column| Call::Forge(Place::new(0, 0, column), None);
         let lines = room / line_width(kind);
         // The one too many may have a number that is too large as well.
         let over = rng.percent(40).then(|| forge(rng.pick(&[0, 0, 256])));
@@ -305,14 +296,7 @@ impl ScriptMaker<'_> {
             PackFlaw::NoRound => {
                 let closes = positions(calls, CallName::Close);
                 let at = closes.last().map_or(anywhere, |_| rng.pick(&closes) + 1);
-                let stray = Call::Forge(
-                    Place {
-                        sender: 0,
-                        receiver: 0,
-                        column: 256,
-                    },
-                    None,
-                );
+                let stray = Call::Forge(Place::new(0, 0, 256), None);
                 calls.insert(
                     rng.pick(&[at, calls.len()]),
                     rng.pick(&[Call::Close, Call::Close, stray]),
@@ -337,13 +321,11 @@ impl ScriptMaker<'_> {
         let large = rng.pick(&[255, 256, 256, 257, 65_536, usize::MAX]);
         let seats = positions(calls, CallName::Seat);
         if flaw == PackFlaw::LargeNumber && !seats.is_empty() && rng.percent(60) {
-            let numbers = [[large, 0, 0], [0, large, 0], [0, 0, large]];
-            let [sender, receiver, column] = rng.pick(&numbers);
-            let place = Place {
-                sender,
-                receiver,
-                column,
-            };
+            let place = rng.pick(&[
+                Place::new(large, 0, 0),
+                Place::new(0, large, 0),
+                Place::new(0, 0, large),
+            ]);
             calls.insert(rng.pick(&seats) + 1, Call::Forge(place, None));
             return;
         }

@@ -341,11 +341,7 @@ impl<'a> Words<'a> {
     }
 
     fn forge(&mut self) -> Result<Written, LineFlaw> {
-        let place = Place {
-            sender: self.number()?,
-            receiver: self.number()?,
-            column: self.number()?,
-        };
+        let place = Place::new(self.number()?, self.number()?, self.number()?);
         let cell = |word: &[u8]| match word {
             b"empty" => Some(None),
             _ => numbers(word).map(Some),
