@@ -181,6 +181,16 @@ pub fn sound(kind_and_model: (Kind, Model), rng: &Rng) -> Draft {
     adversaries::sound(frame, style, rng)
 }
 
+/// A whole vote in which the adversary keeps the block split, if it can.
+pub fn splitting(kind_and_model: (Kind, Model), rng: &Rng) -> Draft {
+    let frame = frame(kind_and_model, rng);
+    let frame = Frame {
+        rounds: frame.rounds.max(3 * frame.n),
+        ..frame
+    };
+    adversaries::sound(frame, splitting_style(rng), rng)
+}
+
 fn long(kind_and_model: (Kind, Model), rng: &Rng) -> Draft {
     let rounds = rng.pick(&[MOST_ROUNDS, MOST_ROUNDS - 1, rng.between(100, MOST_ROUNDS)]);
     let frame = Frame {

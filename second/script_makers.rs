@@ -3,7 +3,7 @@
 use crate::adversaries::Frame;
 use crate::benches::{Call, CallName};
 use crate::call_makers::CallMaker;
-use crate::files::{LONGEST, RunFile, length, line_width};
+use crate::files::{Draft, LONGEST, RunFile, length, line_width};
 use crate::line_makers::{Manners, lay};
 use crate::makers;
 use crate::models::{Base, Model, Set};
@@ -19,6 +19,8 @@ pub enum Recipe {
     /// Calls in any order.
     Any,
     Sound,
+    /// A sound one under a model that lets the block be split.
+    Split,
     /// A sound one with questions between the calls.
     Questioned,
     /// A sound one with refused calls between the others.
@@ -46,10 +48,11 @@ pub struct Made {
 pub fn make(seed: u64, index: u64) -> Made {
     let rng = Rng::new(seed, index);
     let recipe = recipe(index);
-    let maker = ScriptMaker {
-        head: head(index, &rng),
-        rng: &rng,
+    let head = match recipe {
+        Recipe::Split => splitting_head(index, &rng),
+        _ => head(index, &rng),
     };
+    let maker = ScriptMaker { head, rng: &rng };
     let text = match recipe {
         Recipe::OneFlaw(flaw) => maker.flawed(&[flaw]),
         Recipe::FlawedHead => maker.flawed(&maker.flaws_of_a_head()),
@@ -72,7 +75,8 @@ fn recipe(index: u64) -> Recipe {
     let turn = |start: usize, slots: usize| hundred as usize * slots + slot - start;
     match slot {
         0..22 => Recipe::Any,
-        22..36 => Recipe::Sound,
+        22..33 => Recipe::Sound,
+        33..36 => Recipe::Split,
         36..44 => Recipe::Questioned,
         44..54 => Recipe::Disturbed,
         54 => Recipe::ThousandRounds,
@@ -101,6 +105,16 @@ fn head(index: u64, rng: &Rng) -> Head {
         kind: Kind::ALL[turn / bases % kinds],
         base: Base::ALL[turn % bases],
         layers,
+    }
+}
+
+/// Without stamps, an upset that moves can split a block.
+fn splitting_head(index: u64, rng: &Rng) -> Head {
+    let bases = [Base::Aware, Base::Unaware, Base::Buffered, Base::Carried];
+    Head {
+        base: rng.pick(&bases),
+        layers: 0,
+        ..head(index, rng)
     }
 }
 
@@ -133,6 +147,7 @@ impl ScriptMaker<'_> {
         ]);
         match recipe {
             Recipe::Any => self.any(),
+            Recipe::Split => Script::new(self.head, cells, self.asked(self.split())),
             Recipe::Questioned => Script::new(self.head, cells, self.questioned()),
             Recipe::Disturbed => Script::new(self.head, cells, self.disturbed()),
             Recipe::ThousandRounds => Script::new(self.head, cells, self.thousand_rounds()),
@@ -166,9 +181,11 @@ impl ScriptMaker<'_> {
 
     /// The calls of a made run file.
     fn sound(&self) -> Vec<Call> {
-        let draft = makers::sound(self.kind_and_model(), self.rng);
-        let file = RunFile::read(&draft.bytes()).expect("the file is sound");
-        calls_of(&file)
+        calls_of_draft(&makers::sound(self.kind_and_model(), self.rng))
+    }
+
+    fn split(&self) -> Vec<Call> {
+        calls_of_draft(&makers::splitting(self.kind_and_model(), self.rng))
     }
 
     fn maker(&self) -> CallMaker<'_> {
@@ -440,6 +457,12 @@ impl ScriptMaker<'_> {
         }
         text.into_bytes()
     }
+}
+
+/// The calls of a sound draft.
+fn calls_of_draft(draft: &Draft) -> Vec<Call> {
+    let file = RunFile::read(&draft.bytes()).expect("the draft is sound");
+    calls_of(&file)
 }
 
 fn lines_of(script: &Script) -> Vec<String> {

@@ -321,6 +321,10 @@ fn made_transcripts_replay_and_listings_say_the_same() {
         let replayed = replay(&script);
         if replayed.status == Some(0) {
             assert_eq!(replay(&replayed.output), replayed, "{index}");
+            // A clean coordinator makes all filled decisions equal.
+            let last = String::from_utf8_lossy(&replayed.output);
+            let clean = !last.contains("# clean coordinators: {}");
+            assert!(!clean || !last.ends_with("not all equal\n"), "{index}");
         }
         let packed = pack_text(&script);
         let transcript = Script::read(&script).map(|script| Transcript::of(&script));
