@@ -243,7 +243,7 @@ impl Manners {
         Manners {
             loose: rng.percent(25),
             line_end: rng.weighted(&[(90, "\n"), (10, "\r\n")]),
-            ended: !rng.percent(12),
+            ended: !rng.percent(25),
         }
     }
 

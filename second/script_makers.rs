@@ -335,7 +335,7 @@ impl ScriptMaker<'_> {
     fn spoil_a_number(&self, flaw: PackFlaw, calls: &mut Vec<Call>) {
         let rng = self.rng;
         // 255 is not too large for a run file.
-        let large = rng.pick(&[255, 256, 256, 257, 65_536, usize::MAX]);
+        let large = rng.pick(&[255, 255, 256, 256, 65_536, usize::MAX]);
         let seats = positions(calls, CallName::Seat);
         if flaw == PackFlaw::LargeNumber && !seats.is_empty() && rng.percent(60) {
             let place = rng.pick(&[
