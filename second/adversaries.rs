@@ -7,7 +7,7 @@ use std::collections::HashSet;
 use crate::files::{Draft, LONGEST, line_width};
 use crate::models::{Class, Counts, Model, Set};
 use crate::rng::Rng;
-use crate::runs::{Place, Round, Run};
+use crate::runs::{MOST_CELLS, Opening, Place, Round, Run};
 use crate::values::{Cell, Kind, Value};
 use crate::votes::{Stage, column_of, holders};
 
@@ -78,14 +78,15 @@ pub fn sound(frame: Frame, style: Style, rng: &Rng) -> Draft {
     let proposals = propose(frame, style.proposals, &values, rng);
     let mut set = initial_set(frame, style.seating, rng);
     let mut draft = Draft::new(frame.kind, frame.model, frame.t, &proposals, set);
-    let mut run = Run::open(frame.model, frame.kind, frame.t, &proposals, set)
-        .expect("the frame is resilient");
+    let opening = Opening::of(frame.t, &proposals, set);
+    let mut run =
+        Run::open(frame.model, frame.kind, MOST_CELLS, &opening).expect("the frame is resilient");
     let fitting =
         (LONGEST - draft.bytes().len()).saturating_sub(2 * frame.rounds) / line_width(frame.kind);
     let most_lines = style.lines.min(fitting);
     for number in 0..frame.rounds {
         set = next_set(frame, style.seating, number, set, rng);
-        let mut round = run.seat(set).expect("the model allows the move");
+        let mut round = run.seat(set).ok().expect("the model allows the move");
         let wanted = if number < style.from {
             Vec::new()
         } else {
@@ -96,14 +97,14 @@ pub fn sound(frame: Frame, style: Style, rng: &Rng) -> Draft {
                 draft.add_line(frame.kind, number, place, cell);
             }
         }
-        round.close();
+        run = round.close();
         draft.add_round(set);
     }
     draft
 }
 
-/// The few values of one file. The first is the one the adversary counts.
-fn palette(kind: Kind, rng: &Rng) -> Vec<Value> {
+/// The few values of one file or script. The first is the one the adversary counts.
+pub fn palette(kind: Kind, rng: &Rng) -> Vec<Value> {
     let mut values = match kind {
         Kind::Setpoint => setpoints(rng),
         Kind::Sheet => sheets(rng),

@@ -2,14 +2,14 @@
 
 use std::collections::BTreeMap;
 use std::fmt;
-use std::io::{self, Read, Write};
+use std::io;
 use std::path::{Path, PathBuf};
-use std::process::{Command, Stdio};
 
 use crate::listings::{Held, Listing, Report, list, text};
 use crate::makers::make;
 use crate::models::{Base, Model};
 use crate::refusals::{Refusal, Refused};
+use crate::replies::{Reply, ask};
 use crate::values::Kind;
 
 const MOST_SHOWN: usize = 10;
@@ -58,12 +58,12 @@ impl Comparison {
     /// Whether the program writes what we do. A difference is printed, unless
     /// enough of them were.
     fn alike(&self, name: &str, bytes: &[u8], listing: &Listing, shown: usize) -> io::Result<bool> {
-        let theirs = ask(&self.program, bytes)?;
-        let ours = Answer {
-            text: text(listing).into_bytes(),
+        let theirs = ask(&self.program, bytes, MOST_READ)?;
+        let ours = Reply {
             status: Some(i32::from(listing.is_err())),
+            ..Reply::with(text(listing).into_bytes())
         };
-        let alike = theirs == ours;
+        let alike = (&theirs.output, theirs.status) == (&ours.output, ours.status);
         if !alike && shown < MOST_SHOWN {
             let start: Vec<String> = bytes
                 .iter()
@@ -72,8 +72,8 @@ impl Comparison {
                 .collect();
             println!("DIFFERENCE: {name}, {} bytes", bytes.len());
             println!("  it starts {}", start.join(" "));
-            println!("  the program says {theirs}");
-            println!("  this one says    {ours}");
+            println!("  the program says {}", said(&theirs));
+            println!("  this one says    {}", said(&ours));
         }
         Ok(alike)
     }
@@ -107,45 +107,13 @@ fn neighbour(path: &Path) -> io::Result<Option<Vec<u8>>> {
     }
 }
 
-#[derive(PartialEq, Eq)]
-struct Answer {
-    text: Vec<u8>,
-    /// Nothing if a signal ended the program.
-    status: Option<i32>,
-}
-
-impl fmt::Display for Answer {
-    fn fmt(&self, f: &mut fmt::Formatter) -> fmt::Result {
-        let shown = String::from_utf8_lossy(&self.text[..self.text.len().min(600)]);
-        match self.status {
-            Some(status) => write!(f, "{shown:?} with status {status}"),
-            None => write!(f, "{shown:?} and was ended by a signal"),
-        }
+/// A listing's text with its status; what a program says besides is not compared.
+fn said(reply: &Reply) -> String {
+    let text = String::from_utf8_lossy(&reply.output[..reply.output.len().min(600)]);
+    match reply.status {
+        Some(status) => format!("{text:?} with status {status}"),
+        None => format!("{text:?} and was ended by a signal"),
     }
-}
-
-/// Runs the program with the file on its standard input.
-fn ask(program: &Path, bytes: &[u8]) -> io::Result<Answer> {
-    let mut child = Command::new(program)
-        .stdin(Stdio::piped())
-        .stdout(Stdio::piped())
-        .stderr(Stdio::null())
-        .spawn()?;
-    let mut input = child.stdin.take().expect("standard input is piped");
-    let output = child.stdout.take().expect("standard output is piped");
-    let mut text = Vec::new();
-    // Written from a thread of its own, so that neither program waits for the
-    // other with a full pipe. A program need not read all: where the pipe
-    // breaks, its answer is judged like any other.
-    std::thread::scope(|scope| {
-        scope.spawn(move || input.write_all(bytes).ok());
-        // Takes the pipe, and so closes it: a program that writes on is stopped.
-        output.take(MOST_READ).read_to_end(&mut text)
-    })?;
-    Ok(Answer {
-        text,
-        status: child.wait()?.code(),
-    })
 }
 
 /// What came up among some files.

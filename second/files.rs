@@ -2,7 +2,7 @@
 
 use crate::models::{Base, Class, Model, Set};
 use crate::refusals::Refusal;
-use crate::runs::Place;
+use crate::runs::{Opening, Place};
 use crate::values::{Cell, Kind, Value};
 
 pub const HEADER: usize = 16;
@@ -67,6 +67,12 @@ impl RunFile {
     }
 }
 
+impl RunFile {
+    pub fn opening(&self) -> Opening {
+        Opening::of(self.t, &self.proposals, self.initial)
+    }
+}
+
 /// The 16-bit number at `at`, low byte first.
 fn number_at(bytes: &[u8], at: usize) -> u16 {
     u16::from_le_bytes([bytes[at], bytes[at + 1]])
@@ -116,6 +122,11 @@ impl Layout {
         let named = [10, 12, 14].map(|at| usize::from(number_at(bytes, at)));
         named == [HEADER, self.sets, self.lines] && bytes.len() == self.end
     }
+}
+
+/// How many bytes a file with so many controllers, rounds and lines has.
+pub fn length(kind: Kind, n: usize, rounds: usize, lines: usize) -> usize {
+    Layout::of(kind, n, rounds, lines).end
 }
 
 pub fn line_width(kind: Kind) -> usize {

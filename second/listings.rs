@@ -5,7 +5,7 @@ use std::fmt;
 use crate::files::RunFile;
 use crate::models::Model;
 use crate::refusals::Refused;
-use crate::runs::Run;
+use crate::runs::{MOST_CELLS, Run};
 use crate::values::{Kind, Value};
 
 /// The listing of a file that is not refused.
@@ -34,9 +34,9 @@ pub fn list(bytes: &[u8]) -> Listing {
     let run = perform(&file)?;
     let held = (0..file.proposals.len())
         .map(|controller| match run.decision(controller) {
-            Some(Some(value)) => Held::Decision(value),
-            Some(None) => Held::Nothing,
-            None => Held::Seated,
+            Ok(Some(value)) => Held::Decision(value),
+            Ok(None) => Held::Nothing,
+            Err(_) => Held::Seated,
         })
         .collect();
     Ok(Report {
@@ -49,16 +49,18 @@ pub fn list(bytes: &[u8]) -> Listing {
 }
 
 fn perform(file: &RunFile) -> Result<Run, Refused> {
-    let mut run = Run::open(file.model, file.kind, file.t, &file.proposals, file.initial)?;
+    let mut run = Run::open(file.model, file.kind, MOST_CELLS, &file.opening())?;
     let mut lines = file.lines.iter().peekable();
     for (number, &set) in file.sets.iter().enumerate() {
-        let mut round = run.seat(set).map_err(|refusal| refusal.in_round(number))?;
+        let mut round = run
+            .seat(set)
+            .map_err(|refused| refused.refusal.in_round(number))?;
         while let Some(line) = lines.next_if(|line| line.round == number) {
             round
                 .forge(line.place, line.cell)
                 .map_err(|refusal| refusal.in_round(number))?;
         }
-        round.close();
+        run = round.close();
     }
     Ok(run)
 }

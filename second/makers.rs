@@ -90,7 +90,7 @@ fn fewest(model: Model, t: usize) -> usize {
 }
 
 /// Mostly the smallest block for its t: there every count is at its threshold.
-fn frame((kind, model): (Kind, Model), rng: &Rng) -> Frame {
+pub fn frame((kind, model): (Kind, Model), rng: &Rng) -> Frame {
     let most = (0..MOST_CONTROLLERS)
         .take_while(|&t| fewest(model, t) <= MOST_CONTROLLERS)
         .count()
@@ -175,10 +175,20 @@ fn splitting_style(rng: &Rng) -> Style {
     }
 }
 
-fn sound(kind_and_model: (Kind, Model), rng: &Rng) -> Draft {
+pub fn sound(kind_and_model: (Kind, Model), rng: &Rng) -> Draft {
     let frame = frame(kind_and_model, rng);
     let style = style(frame, rng);
     adversaries::sound(frame, style, rng)
+}
+
+/// A whole vote in which the adversary keeps the block split, if it can.
+pub fn splitting(kind_and_model: (Kind, Model), rng: &Rng) -> Draft {
+    let frame = frame(kind_and_model, rng);
+    let frame = Frame {
+        rounds: frame.rounds.max(3 * frame.n),
+        ..frame
+    };
+    adversaries::sound(frame, splitting_style(rng), rng)
 }
 
 fn long(kind_and_model: (Kind, Model), rng: &Rng) -> Draft {

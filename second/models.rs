@@ -23,6 +23,13 @@ impl Set {
     }
 }
 
+impl fmt::Display for Set {
+    fn fmt(&self, f: &mut fmt::Formatter) -> fmt::Result {
+        let members: Vec<String> = self.members().map(|member| member.to_string()).collect();
+        write!(f, "{{{}}}", members.join(","))
+    }
+}
+
 impl FromIterator<usize> for Set {
     fn from_iter<I: IntoIterator<Item = usize>>(controllers: I) -> Set {
         Set(controllers
@@ -84,6 +91,16 @@ impl Base {
             Base::Buffered => 2,
             Base::Carried => 3,
             Base::Fixed => 4,
+        }
+    }
+
+    pub fn word(self) -> &'static str {
+        match self {
+            Base::Aware => "aware",
+            Base::Unaware => "unaware",
+            Base::Buffered => "buffered",
+            Base::Carried => "carried",
+            Base::Fixed => "fixed",
         }
     }
 
@@ -153,16 +170,7 @@ impl Model {
 
 impl fmt::Display for Model {
     fn fmt(&self, f: &mut fmt::Formatter) -> fmt::Result {
-        let base = match self.base {
-            Base::Aware => "aware",
-            Base::Unaware => "unaware",
-            Base::Buffered => "buffered",
-            Base::Carried => "carried",
-            Base::Fixed => "fixed",
-        };
-        f.pad(&format!(
-            "{base}{}",
-            if self.stamps { ", stamped" } else { "" }
-        ))
+        let stamps = if self.stamps { ", stamped" } else { "" };
+        f.pad(&format!("{}{stamps}", self.base.word()))
     }
 }

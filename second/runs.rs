@@ -1,7 +1,8 @@
 //! A block that votes: who is seated, what is forged, who hears what.
 //!
 //! The order of calls is in the types: only a seat makes a `Round`, only a
-//! `Round` can be forged in, and its close uses it up.
+//! `Round` can be forged in, and its close gives the `Run` back. Where any call
+//! may come at any time, as in a script, a `Bench` stands over them.
 
 use std::collections::HashMap;
 
@@ -12,8 +13,59 @@ use crate::votes::{Process, Quorums, Stage};
 
 pub const MOST_CONTROLLERS: usize = 16;
 pub const MOST_ROUNDS: usize = 1000;
+/// Enough for every block.
+pub const MOST_CELLS: usize = needed(MOST_CONTROLLERS);
+
+/// How many cells of a store a block of `n` takes. This program keeps none; it
+/// only refuses where the first would have too few.
+pub const fn needed(n: usize) -> usize {
+    n * n * n + 2 * n * n + 5 * n
+}
+
+/// What the call open takes.
+#[derive(Clone, PartialEq, Eq, Debug)]
+pub struct Opening {
+    pub n: usize,
+    pub t: usize,
+    pub initial: Set,
+    pub proposals: Vec<Value>,
+}
+
+impl Opening {
+    /// With as many controllers as there are proposals.
+    pub fn of(t: usize, proposals: &[Value], initial: Set) -> Opening {
+        Opening {
+            n: proposals.len(),
+            t,
+            initial,
+            proposals: proposals.to_vec(),
+        }
+    }
+
+    fn check(&self, model: Model, cells: usize) -> Result<(), Refusal> {
+        let Opening { n, t, .. } = *self;
+        let counts = model.counts(t);
+        if n == 0 || n > MOST_CONTROLLERS {
+            return Err(Refusal::BlockSize);
+        }
+        if t >= n {
+            return Err(Refusal::FaultCount);
+        }
+        if n <= counts.b + counts.e + counts.l {
+            return Err(Refusal::Resilience);
+        }
+        if cells < needed(n) {
+            return Err(Refusal::StoreSize);
+        }
+        if self.proposals.len() != n {
+            return Err(Refusal::ProposalCount);
+        }
+        check_members(self.initial, n, t)
+    }
+}
 
 /// A run between two rounds.
+#[derive(Clone)]
 pub struct Run {
     pub model: Model,
     pub quorums: Quorums,
@@ -25,25 +77,15 @@ pub struct Run {
 }
 
 impl Run {
-    pub fn open(
-        model: Model,
-        kind: Kind,
-        t: usize,
-        proposals: &[Value],
-        initial: Set,
-    ) -> Result<Run, Refusal> {
-        let n = proposals.len();
-        let counts = model.counts(t);
-        if n == 0 || n > MOST_CONTROLLERS {
-            return Err(Refusal::BlockSize);
-        }
-        if t >= n {
-            return Err(Refusal::FaultCount);
-        }
-        if n <= counts.b + counts.e + counts.l {
-            return Err(Refusal::Resilience);
-        }
-        check_members(initial, n, t)?;
+    /// Opened over a store of `cells`.
+    pub fn open(model: Model, kind: Kind, cells: usize, opening: &Opening) -> Result<Run, Refusal> {
+        opening.check(model, cells)?;
+        let Opening {
+            n,
+            t,
+            initial,
+            ref proposals,
+        } = *opening;
         let processes = proposals
             .iter()
             .enumerate()
@@ -51,7 +93,7 @@ impl Run {
             .collect();
         let quorums = Quorums {
             n,
-            counts,
+            counts: model.counts(t),
             fallback: kind.fallback(),
         };
         Ok(Run {
@@ -64,33 +106,56 @@ impl Run {
         })
     }
 
-    pub fn seat(&mut self, after: Set) -> Result<Round<'_>, Refusal> {
-        let n = self.quorums.n;
+    pub fn n(&self) -> usize {
+        self.quorums.n
+    }
+
+    pub fn t(&self) -> usize {
+        self.t
+    }
+
+    /// Who was seated in the last closed round.
+    pub fn before(&self) -> Set {
+        self.before
+    }
+
+    fn check_seat(&self, after: Set) -> Result<(), Refusal> {
         if self.round >= MOST_ROUNDS {
             return Err(Refusal::RoundLimit);
         }
-        check_members(after, n, self.t)?;
+        check_members(after, self.n(), self.t)?;
         if !self.model.allows(self.before, after) {
             return Err(Refusal::ForbiddenMove);
         }
-        let stage = Stage::of(self.round, n);
+        Ok(())
+    }
+
+    pub fn seat(self, after: Set) -> Result<Round, NotSeated> {
+        if let Err(refusal) = self.check_seat(after) {
+            return Err(NotSeated { run: self, refusal });
+        }
+        let n = self.n();
         let classes = (0..n)
             .map(|i| self.model.class(self.before, after, i))
             .collect();
         Ok(Round {
             number: self.round,
+            stage: Stage::of(self.round, n),
             run: self,
             after,
-            stage,
             classes,
             forged: HashMap::new(),
         })
     }
 
-    /// The decision of a controller, or nothing where it was seated in the
-    /// last closed round (the initial set counts as that of round -1).
-    pub fn decision(&self, controller: usize) -> Option<Cell> {
-        (!self.before.has(controller)).then(|| self.processes[controller].decision)
+    /// The decision of a controller, if it can be asked. At first the initial
+    /// set counts as that of the last closed round.
+    pub fn decision(&self, controller: usize) -> Result<Cell, Refusal> {
+        match self.processes.get(controller) {
+            None => Err(Refusal::NoSuchPlace),
+            Some(_) if self.before.has(controller) => Err(Refusal::WasSeated),
+            Some(process) => Ok(process.decision),
+        }
     }
 
     /// The v of each controller.
@@ -107,6 +172,12 @@ fn check_members(set: Set, n: usize, t: usize) -> Result<(), Refusal> {
     Ok(())
 }
 
+/// A seat that was refused gives the run back as it stood.
+pub struct NotSeated {
+    pub run: Run,
+    pub refusal: Refusal,
+}
+
 /// Where a forged cell goes.
 #[derive(Clone, Copy, PartialEq, Eq, Hash, Debug)]
 pub struct Place {
@@ -115,9 +186,20 @@ pub struct Place {
     pub column: usize,
 }
 
+impl Place {
+    pub fn new(sender: usize, receiver: usize, column: usize) -> Place {
+        Place {
+            sender,
+            receiver,
+            column,
+        }
+    }
+}
+
 /// A round under way.
-pub struct Round<'run> {
-    run: &'run mut Run,
+#[derive(Clone)]
+pub struct Round {
+    run: Run,
     pub number: usize,
     /// Who is seated in this round: the set after its move.
     pub after: Set,
@@ -126,9 +208,14 @@ pub struct Round<'run> {
     forged: HashMap<Place, Cell>,
 }
 
-impl Round<'_> {
+impl Round {
     pub fn quorums(&self) -> Quorums {
         self.run.quorums
+    }
+
+    /// The run as it stood before the round.
+    pub fn run(&self) -> &Run {
+        &self.run
     }
 
     pub fn forge(&mut self, place: Place, cell: Cell) -> Result<(), Refusal> {
@@ -177,7 +264,7 @@ impl Round<'_> {
             .collect()
     }
 
-    pub fn close(self) {
+    pub fn close(mut self) -> Run {
         let n = self.run.quorums.n;
         // Every message is from before the round, so all are taken down first.
         let heard: Vec<_> = (0..n).map(|receiver| self.all_heard(receiver)).collect();
@@ -190,5 +277,6 @@ impl Round<'_> {
         }
         self.run.before = self.after;
         self.run.round += 1;
+        self.run
     }
 }

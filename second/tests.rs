@@ -7,7 +7,7 @@ use crate::listings::{list, text};
 use crate::makers;
 use crate::models::{Base, Counts, Model, Set};
 use crate::refusals::Refusal;
-use crate::runs::{Place, Run};
+use crate::runs::{MOST_CELLS, NotSeated, Opening, Place, Round, Run};
 use crate::values::{Cell, Kind, Value};
 use crate::votes::Quorums;
 
@@ -54,12 +54,17 @@ fn set(controllers: &[usize]) -> Set {
 
 fn open(model: Model, t: usize, tenths: &[u16], initial: &[usize]) -> Result<Run, Refusal> {
     let proposals: Vec<Value> = cells(tenths).into_iter().flatten().collect();
-    Run::open(model, Kind::Setpoint, t, &proposals, set(initial))
+    let opening = Opening::of(t, &proposals, set(initial));
+    Run::open(model, Kind::Setpoint, MOST_CELLS, &opening)
+}
+
+fn seat(run: Run, seated: &[usize]) -> Result<Round, NotSeated> {
+    run.seat(set(seated))
 }
 
 /// Seats, forges sender, receiver, column and figure, and closes.
-fn round(run: &mut Run, seated: &[usize], forged: &[(usize, usize, usize, u16)]) {
-    let mut round = run.seat(set(seated)).unwrap();
+fn round(run: Run, seated: &[usize], forged: &[(usize, usize, usize, u16)]) -> Run {
+    let mut round = seat(run, seated).ok().unwrap();
     for &(sender, receiver, column, tenths) in forged {
         round
             .forge(
@@ -72,7 +77,7 @@ fn round(run: &mut Run, seated: &[usize], forged: &[(usize, usize, usize, u16)])
             )
             .unwrap();
     }
-    round.close();
+    round.close()
 }
 
 #[test]
@@ -160,16 +165,21 @@ fn a_block_of_one() {
             &[],
         )
         .unwrap();
-        (0..3).for_each(|_| round(&mut run, &[], &[]));
-        assert_eq!(run.decision(0), Some(some(500)));
+        for _ in 0..3 {
+            run = round(run, &[], &[]);
+        }
+        assert_eq!(run.decision(0), Ok(some(500)));
     }
 }
 
 #[test]
 fn an_upset_that_never_moves() {
-    let mut run = open(FIXED, 1, &[500; 4], &[2]).unwrap();
-    assert_eq!(run.seat(set(&[3])).err(), Some(Refusal::ForbiddenMove));
-    assert!(run.seat(set(&[2])).is_ok());
+    let run = open(FIXED, 1, &[500; 4], &[2]).unwrap();
+    let Err(NotSeated { run, refusal }) = seat(run, &[3]) else {
+        panic!("the move is forbidden");
+    };
+    assert_eq!(refusal, Refusal::ForbiddenMove);
+    assert!(seat(run, &[2]).is_ok());
 }
 
 #[test]
@@ -189,8 +199,8 @@ fn values_at_the_edge() {
 
 #[test]
 fn refused_forgeries() {
-    let mut run = open(UNAWARE, 1, &[500; 6], &[1]).unwrap();
-    let mut round = run.seat(set(&[2])).unwrap();
+    let run = open(UNAWARE, 1, &[500; 6], &[1]).unwrap();
+    let mut round = seat(run, &[2]).ok().unwrap();
     let mut forge = |sender, receiver, column| {
         round.forge(
             Place {
@@ -213,22 +223,18 @@ fn refused_forgeries() {
 #[test]
 fn a_phase_round_by_round() {
     let mut run = open(CARRIED, 1, &[500, 500, 500, 610], &[1]).unwrap();
-    round(
-        &mut run,
-        &[3],
-        &[(1, 0, 0, 500), (1, 2, 0, 610), (1, 2, 0, 500)],
-    );
+    run = round(run, &[3], &[(1, 0, 0, 500), (1, 2, 0, 610), (1, 2, 0, 500)]);
     assert_eq!(run.values(), cells(&[500, 0, 500, 0]));
-    round(&mut run, &[3], &[(3, 0, 0, 610)]);
+    run = round(run, &[3], &[(3, 0, 0, 610)]);
     assert_eq!(run.values(), cells(&[500, 0, 500, 0]));
-    round(&mut run, &[1], &[]);
+    run = round(run, &[1], &[]);
     assert_eq!(run.values(), cells(&[500, 0, 500, 500]));
 }
 
 #[test]
 fn a_free_coordinator_and_a_stamped_one() {
-    let mut free = open(CARRIED, 1, &[500, 610, 500, 610], &[]).unwrap();
-    let mut stamped = open(
+    let free = open(CARRIED, 1, &[500, 610, 500, 610], &[]).unwrap();
+    let stamped = open(
         Model {
             stamps: true,
             ..CARRIED
@@ -238,18 +244,11 @@ fn a_free_coordinator_and_a_stamped_one() {
         &[],
     )
     .unwrap();
-    for run in [&mut free, &mut stamped] {
-        round(run, &[], &[]);
-        round(run, &[0], &[]);
-    }
-    round(
-        &mut free,
-        &[],
-        &[(0, 1, 0, 610), (0, 1, 1, 610), (0, 1, 2, 500)],
-    );
+    let [free, stamped] = [free, stamped].map(|run| round(round(run, &[], &[]), &[0], &[]));
+    let free = round(free, &[], &[(0, 1, 0, 610), (0, 1, 1, 610), (0, 1, 2, 500)]);
     assert_eq!(free.values(), cells(&[400, 610, 400, 400]));
-    round(
-        &mut stamped,
+    let stamped = round(
+        stamped,
         &[],
         &[(0, 0, 0, 500), (0, 0, 1, 610), (0, 0, 2, 610)],
     );

@@ -58,9 +58,23 @@ impl Kind {
             .chunks_exact(2)
             .map(|pair| u16::from_le_bytes([pair[0], pair[1]]))
             .collect();
+        self.value(&numbers)
+    }
+
+    /// The value with these numbers, if they keep the rule.
+    pub fn value(self, numbers: &[u16]) -> Option<Value> {
+        match (self, numbers) {
+            (Kind::Setpoint, &[tenths]) => Value::setpoint(tenths),
+            (Kind::Sheet, &[a, b, c, d]) => Value::sheet([a, b, c, d]),
+            _ => None,
+        }
+    }
+
+    /// Its word in a script.
+    pub fn word(self) -> &'static str {
         match self {
-            Kind::Setpoint => Value::setpoint(numbers[0]),
-            Kind::Sheet => Value::sheet([numbers[0], numbers[1], numbers[2], numbers[3]]),
+            Kind::Setpoint => "setpoint",
+            Kind::Sheet => "sheet",
         }
     }
 }
@@ -109,9 +123,20 @@ impl fmt::Display for Kind {
     }
 }
 
+impl Value {
+    fn joined(&self, between: &str) -> String {
+        let words: Vec<String> = self.numbers().iter().map(u16::to_string).collect();
+        words.join(between)
+    }
+
+    /// As a script has it, in one word.
+    pub fn word(&self) -> String {
+        self.joined("/")
+    }
+}
+
 impl fmt::Display for Value {
     fn fmt(&self, f: &mut fmt::Formatter) -> fmt::Result {
-        let words: Vec<String> = self.numbers().iter().map(u16::to_string).collect();
-        f.write_str(&words.join(" "))
+        f.write_str(&self.joined(" "))
     }
 }
