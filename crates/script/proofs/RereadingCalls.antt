@@ -5,6 +5,7 @@ use Rattle.std.specs.Option.{option_map, option_and_then}
 use Rattle.std.proofs.lemmas.Bool.{and_parts, and_from}
 use Rattle.std.proofs.lemmas.Bool.Decides.{nat_tests}
 use Rattle.std.proofs.lemmas.List.{length-map}
+use Rattle.std.proofs.lemmas.List.Sums.{fold-append}
 use Rattle.std.specs.Int.{bit_at}
 use Rattle.std.proofs.lemmas.Nat.Bits.{bit_at-zero, bit_at_or, bit_at-pow_same, bit_at-pow_other, bit_at_above, bit_at-lt, same_from_bits}
 use mathlib.Core.Logic.{inl, inr}
@@ -58,14 +59,10 @@ unfolding bit_if
 added set n i s true h e = ?
 added set n i s false h e = ?
 
-fold_more : (s : ℕ) (xs ys : List ℕ) → fold with_member s (xs ++ ys) ≡ fold with_member (fold with_member s xs) ys
-fold_more s [] ys = refl
-fold_more s (x ∷ xs) ys = fold_more (with_member s x) xs ys
-
 bits : (n set i : ℕ) → bit_at (set_with (members_below n set)) i ≡ bit_if n set i
-unfolding members_below, bit_if
+unfolding members_below bit_if
 bits zero set i = bit_at-zero i ∙ ?
-bits (suc n) set i = ap (λ s. bit_at s i) (fold_more 0 (members_below n set) (if has set n then n ∷ [] else [])) ∙ added set n i (set_with (members_below n set)) (has set n) refl (bits n set i)
+bits (suc n) set i = ap (λ s. bit_at s i) (fold-append with_member 0 (members_below n set) (if has set n then n ∷ [] else [])) ∙ added set n i (set_with (members_below n set)) (has set n) refl (bits n set i)
 
 pub made_up : (set : ℕ) → IsSet set → set_with (members_below 16 set) ≡ set
 unfolding bit_if

@@ -1,5 +1,6 @@
-use Rattle.std.proofs.Common.{◌∷◌, ◌++◌, map, codes, decimal, string_bytes, sym, ap, ◌∙◌, append_assoc}
+use Rattle.std.proofs.Common.{ℕ, List, ◌∷◌, ◌++◌, map, codes, decimal, string_bytes, sym, ap, ◌∙◌, append_assoc}
 use Rattle.std.proofs.lemmas.Result.{IfOk-weaker}
+use Rattle.script.specs.declared.figures.Figure.{Figure}
 use Rattle.script.specs.Figures.{numbers_of}
 use Rattle.script.specs.Statements.{written_call}
 use Rattle.script.specs.Written.{written_figure, written_set, behind_blanks, written}
@@ -10,7 +11,7 @@ pub returns-in_ok-push_str-in-Open : goal.returns-in_ok-push_str-in-Open
 returns-in_ok-push_str-in-Open c =
     let o = c.in-Open in
     let old = string_bytes c.args.out.now in
-    let words = λ figures. decimal o.n ∷ decimal o.t ∷ written_set o.initial.0 ∷ map written_figure (map numbers_of figures) in
+    let words : List Figure → List (List ℕ) = λ figures. decimal o.n ∷ decimal o.t ∷ written_set o.initial.0 ∷ map written_figure (map numbers_of figures) in
     let said = words o.proposals.items in
     IfOk-weaker c.put_opening.result _ _ (λ _ e. e
         ∙ (λ i. c.in_ok-push_str-in-Open.ensures.bytes i ++ behind_blanks (words (c.deref.ensures.value i)))
