@@ -127,12 +127,16 @@ fn put_place(place: Place, out: &mut String) -> Result<(), AllocError>
 
 impl Statement<Figure> {
     ghost use Rattle.std.specs.Prelude.{◌≡◌, ◌++◌, string_bytes, OnOk};
-    ghost use Rattle.script.specs.Written.{written};
+    ghost use Rattle.std.specs.Prelude.{Ok};
+    ghost use Rattle.script.specs.Words.{words_of};
+    ghost use Rattle.script.specs.Lines.{call_in};
+    ghost use Rattle.script.specs.Written.{written, IsWritable};
     ghost use Rattle.script.specs.Statements.{written_call};
 
-    /// Adds the call as a line of a script has it: its words, with a blank between two.
+    /// Adds the call as a line of a script has it: its words, with a blank between two. Read again, the line is the call.
     pub fn write(&self, out: &mut String) -> Result<(), AllocError>
-        ensures { OnOk result (string_bytes out.new ≡ string_bytes out.old ++ written (written_call self.now)) }
+        ensures text { OnOk result (string_bytes out.new ≡ string_bytes out.old ++ written (written_call self.now)) }
+        ensures back { IsWritable (written_call self.now) → call_in (words_of (written (written_call self.now))) ≡ Ok (written_call self.now) }
     {
         match self {
             Statement::Open {

@@ -12,11 +12,13 @@ loop-controller-preserved c =
     let n = c.loop-controller.controller in
     elim c.if-holds.branch [
       | then-holds+in_ok-put_member w ↦
-          let held = sym c.holds.ensures ∙ w.if-holds.true in
-          (w.first-is ∙ not_first set n held,
-           ap string_bytes w.out-is ∙ with_member set n (string_bytes c.args.out.now) (string_bytes c.loop-controller.out) (string_bytes w.put_member.new.out) c.loop-controller.first held c.loop-controller.invariant.0 c.loop-controller.invariant.1 w.in_ok-put_member.ensures)
+          let held = sym c.holds.ensures ∙ w.if-holds.true in (
+            w.first-is ∙ not_first set n held,
+            ap string_bytes w.out-is ∙ with_member set n (string_bytes c.args.out.now) (string_bytes c.loop-controller.out) (string_bytes w.put_member.new.out) c.loop-controller.first held c.loop-controller.invariant.0 c.loop-controller.invariant.1 w.in_ok-put_member.ensures,
+          )
       | else-holds w ↦
-          let same = without_member set n (sym c.holds.ensures ∙ w.if-holds.false) in
-          (w.first-is ∙ c.loop-controller.invariant.0 ∙ ap (λ ms. length ms == 0) (sym same),
-           ap string_bytes w.out-is ∙ c.loop-controller.invariant.1 ∙ ap (λ ms. string_bytes c.args.out.now ++ (123 ∷ joined ms)) (sym same))
+          let same = without_member set n (sym c.holds.ensures ∙ w.if-holds.false) in (
+            w.first-is ∙ c.loop-controller.invariant.0 ∙ ap (λ ms. length ms == 0) (sym same),
+            ap string_bytes w.out-is ∙ c.loop-controller.invariant.1 ∙ ap (λ ms. string_bytes c.args.out.now ++ (123 ∷ joined ms)) (sym same),
+          )
     ]

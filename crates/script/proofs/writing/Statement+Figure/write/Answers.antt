@@ -14,7 +14,7 @@ returns-in_ok-push_str-in-Open c =
     let words : List Figure → List (List ℕ) = λ figures. decimal o.n ∷ decimal o.t ∷ written_set o.initial.0 ∷ map written_figure (map numbers_of figures) in
     let said = words o.proposals.items in
     IfOk-weaker c.put_opening.result _ _ (λ _ e. e
-        ∙ (λ i. c.in_ok-push_str-in-Open.ensures.bytes i ++ behind_blanks (words (c.deref.ensures.value i)))
-        ∙ append_assoc old (codes "open") (behind_blanks said)
-        ∙ ap (λ text. old ++ text) (sym (join_is (codes "open") said))
-        ∙ ap (λ s. old ++ written (written_call s)) (sym c.in-Open.is)) c.put_opening.ensures
+    ∙ (λ i. c.in_ok-push_str-in-Open.ensures.bytes i ++ behind_blanks (words (c.deref.ensures.value i)))
+    ∙ append_assoc old (codes "open") (behind_blanks said)
+    ∙ ap (λ text. old ++ text) (sym (join_is (codes "open") said))
+    ∙ ap (λ s. old ++ written (written_call s)) (sym c.in-Open.is)) c.put_opening.ensures
