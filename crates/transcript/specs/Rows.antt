@@ -1,6 +1,6 @@
--- Statements whose values are the rows of a kind. Assumes nothing.
-use Rattle.std.specs.Prelude.{◌≡◌, ℕ, List, map, Result, IfOk}
-use Rattle.values.specs.Rules.{Rules, means}
+-- The calls of lines under the rules of a kind, and what is promised of their answers. Assumes nothing.
+use Rattle.std.specs.Prelude.{◌≡◌, ℕ, List, map, Result}
+use Rattle.values.specs.Rules.{Rules}
 use Rattle.values.specs.declared.refusals.Refusal.{Refusal}
 use Rattle.models.specs.Laws.{Meaning}
 use Rattle.protocol.specs.Machine.{Setting}
@@ -10,8 +10,7 @@ use Rattle.run.specs.Promises.{replies, entries}
 use Rattle.run.specs.declared.calls.Answer.{Answer}
 use Rattle.script.specs.declared.figures.Figure.{Figure}
 use Rattle.script.specs.declared.scripts.Line.{Line}
-use Rattle.script.specs.declared.statements.Statement.{Statement}
-use Rattle.script.specs.Statements.{call_by, call_under, replied}
+use Rattle.script.specs.Statements.{call_under, replied}
 
 -- the calls of lines, under the rules of a kind
 abbrev pub calls_under : Rules → List Line → List machine.Call

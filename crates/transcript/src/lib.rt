@@ -3,8 +3,10 @@
 
 mod layers;
 mod outcomes;
+mod performing;
 mod rows;
 
 pub use layers::Layered;
 pub use outcomes::{Decisions, Outcome};
+pub use performing::perform;
 pub use rows::Scripted;
