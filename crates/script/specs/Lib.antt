@@ -5,3 +5,4 @@ pub mod Statements
 pub mod Lines
 pub mod InCode
 pub mod Written
+pub mod Scripts

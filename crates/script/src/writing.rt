@@ -134,6 +134,7 @@ impl Statement<Figure> {
     ghost use Rattle.script.specs.Statements.{written_call};
 
     /// Adds the call as a line of a script has it: its words, with a blank between two. Read again, the line is the call.
+    #[tactic(auto, using(crate::proofs::RereadingCalls::call_again))]
     pub fn write(&self, out: &mut String) -> Result<(), AllocError>
         ensures text { OnOk result (string_bytes out.new ≡ string_bytes out.old ++ written (written_call self.now)) }
         ensures back { IsWritable (written_call self.now) → call_in (words_of (written (written_call self.now))) ≡ Ok (written_call self.now) }

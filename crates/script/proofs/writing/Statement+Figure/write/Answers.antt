@@ -7,8 +7,8 @@ use Rattle.script.specs.Written.{written_figure, written_set, behind_blanks, wri
 use Rattle.script.proofs.Rereading.{join_is}
 use Rattle.script.proofs.writing.Statement+Figure.write.Goals as goal
 
-pub returns-in_ok-push_str-in-Open : goal.returns-in_ok-push_str-in-Open
-returns-in_ok-push_str-in-Open c =
+pub returns-in_ok-push_str-in-Open-clause-text : goal.returns-in_ok-push_str-in-Open-clause-text
+returns-in_ok-push_str-in-Open-clause-text c =
     let o = c.in-Open in
     let old = string_bytes c.args.out.now in
     let words : List Figure → List (List ℕ) = λ figures. decimal o.n ∷ decimal o.t ∷ written_set o.initial.0 ∷ map written_figure (map numbers_of figures) in
