@@ -1,1 +1,3 @@
 pub mod Layering
+pub mod OutcomeLogs
+pub mod OutcomeSets

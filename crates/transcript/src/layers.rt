@@ -1,4 +1,4 @@
-use models::{Class, Counts, LawfulModel, Model as FaultModel, Moved, Standard, Stamped};
+use models::{Class, Counts, LawfulModel, Model as FaultModel, Moved, Stamped, Standard};
 
 /// A model of the table under any number of stamp layers.
 #[derive(Clone, Copy, PartialEq, Eq, Debug)]
