@@ -24,16 +24,16 @@ use Rattle.transcript.specs.declared.tallies.Tally.{Tally}
 abbrev Adds : Entry → List ℕ → Type 0
 Adds e x = cell_in e.call e.answer ≡ Some (Some x)
 
-pub stays_answered : (log : Transcript) (e : Entry) (i : ℕ) (x : List ℕ) → Answers log i x → Answers (log ++ e ∷ []) i x
+stays_answered : (log : Transcript) (e : Entry) (i : ℕ) (x : List ℕ) → Answers log i x → Answers (log ++ e ∷ []) i x
 stays_answered [] e i x told = absurd (cc told)
 stays_answered (f ∷ log) e zero x told = told
 stays_answered (f ∷ log) e (suc i) x told = stays_answered log e i x told
 
-pub last_answered : (log : Transcript) (e : Entry) (x : List ℕ) → Adds e x → Answers (log ++ e ∷ []) (length log) x
+last_answered : (log : Transcript) (e : Entry) (x : List ℕ) → Adds e x → Answers (log ++ e ∷ []) (length log) x
 last_answered [] e x adds = adds
 last_answered (f ∷ log) e x adds = last_answered log e x adds
 
-pub was_answered : (log : Transcript) (e : Entry) (i : ℕ) (x : List ℕ) → Answers (log ++ e ∷ []) i x → Answers log i x ⊎ Adds e x
+was_answered : (log : Transcript) (e : Entry) (i : ℕ) (x : List ℕ) → Answers (log ++ e ∷ []) i x → Answers log i x ⊎ Adds e x
 was_answered [] e zero x told = inr told
 was_answered [] e (suc i) x told = absurd (cc told)
 was_answered (f ∷ log) e zero x told = inl told

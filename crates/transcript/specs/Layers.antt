@@ -16,7 +16,7 @@ under_stamps (suc layers) m = stamped (under_stamps layers m)
 abbrev pub layered : Layered → Meaning
 layered s = under_stamps s.layers (standard s.base)
 
--- what a model owes it owes under stamps too
+-- What a model owes it owes under stamps too. The impl of `Layered` cites these, and so they stand here.
 
 pub stay_bounded : (layers : ℕ) (m : Meaning) → Bounded m → Bounded (under_stamps layers m)
 stay_bounded zero m below = below

@@ -4,7 +4,8 @@
 mod layers;
 mod outcomes;
 mod rows;
+mod tallies;
 
 pub use layers::Layered;
-pub use outcomes::{Decisions, Outcome};
+pub use outcomes::{Decisions, Outcome, outcome_of};
 pub use rows::Scripted;
