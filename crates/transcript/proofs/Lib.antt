@@ -1,1 +1,4 @@
+pub mod Layering
+pub mod OutcomeLogs
+pub mod OutcomeSets
 pub mod PerformingCalls

@@ -1,3 +1,4 @@
 pub mod Layers
 pub mod Rows
 pub mod Outcomes
+pub mod Tallies

@@ -1,4 +1,4 @@
-use models::{Class, Counts, LawfulModel, Model as FaultModel, Moved, Standard, Stamped};
+use models::{Class, Counts, LawfulModel, Model as FaultModel, Moved, Stamped, Standard};
 
 /// A model of the table under any number of stamp layers.
 #[derive(Clone, Copy, PartialEq, Eq, Debug)]
@@ -11,13 +11,14 @@ pub struct Layered {
 
 impl FaultModel for Layered {
     ghost use Rattle.std.proofs.Common.{rules};
-    ghost use Rattle.transcript.specs.Layers.{layered};
+    ghost use Rattle.models.specs.Standards.{standard};
+    ghost use Rattle.transcript.specs.Layers.{layered, stay_bounded, stay_capped};
 
     ghost meaning = { layered };
 
-    ghost bounded = { Prim.search rules };
+    ghost bounded = { λ s. stay_bounded s.layers (standard s.base) (Prim.search rules) };
 
-    ghost capped = { Prim.search rules };
+    ghost capped = { λ s. stay_capped s.layers (standard s.base) (Prim.search rules) };
 
     fn allows(&self, moved: Moved) -> bool {
         self.base.allows(moved)

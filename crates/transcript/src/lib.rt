@@ -5,8 +5,9 @@ mod layers;
 mod outcomes;
 mod performing;
 mod rows;
+mod tallies;
 
 pub use layers::Layered;
-pub use outcomes::{Decisions, Outcome};
+pub use outcomes::{Decisions, Outcome, outcome_of};
 pub use performing::perform;
 pub use rows::Scripted;
