@@ -1,4 +1,5 @@
 mod Cutting
+mod Judging
 mod Numbering
 mod Setting
 mod Rereading

@@ -1,12 +1,20 @@
 -- What is read in code, by what the definitions read. Assumes nothing.
-use Rattle.std.specs.Prelude.{◌≡◌, ℕ, ⊤, List, Result, Ok, Err}
+use Rattle.std.specs.Prelude.{◌≡◌, ℕ, ◌<◌, ⊤, map, length, List, [], ◌∷◌, Result, Ok, Err}
 use denote.Ref.{Bor}
 use Rattle.script.specs.declared.flaws.Expected.{Expected}
+use Rattle.script.specs.declared.flaws.Flaw.{Flaw}
+use Rattle.script.specs.declared.scripts.House.{House}
 use Rattle.script.specs.declared.reading.Misread.{Misread}
 use Rattle.script.specs.declared.reading.Misread.TheVariants as misread
-use Rattle.script.specs.Words.{texts}
+use Rattle.script.specs.Words.{texts, lines_of}
+use Rattle.protocol.specs.Machine as machine
+use Rattle.script.specs.declared.scripts.Line.{Line}
+use Rattle.script.specs.Statements.{written_call}
 use Rattle.script.specs.Lines.{Read}
-use Rattle.script.specs.Scripts.{Said}
+use Rattle.script.specs.Scripts.{Said, First, Stored, Meant, script_of}
+use Rattle.script.specs.declared.scripts.Script.{Script}
+use Rattle.script.specs.declared.flaws.ScriptError.{ScriptError}
+use Rattle.script.specs.declared.flaws.ScriptError.TheVariants.{Faulty, NoMemory}
 use Rattle.script.specs.declared.scripts.Said as scripts
 
 -- the result is what the definition reads, by what it means
@@ -31,3 +39,34 @@ said_line said = record { number = said.number; words = texts said.words.items }
 abbrev pub result_map : {A B E : Type 0} → (A → B) → Result A E → Result B E
 result_map f (Ok x) = Ok (f x)
 result_map f (Err e) = Err e
+
+-- a call with the number of its line
+abbrev pub call_of_line : Line → ℕ × machine.Call
+call_of_line line = (line.number, written_call line.statement)
+
+-- a first line and the lines behind it, as they were split off
+abbrev pub IsFirst : First → Result House Flaw × Bor (List scripts.Said) → Type 0
+IsFirst first r = (r.0 ≡ first.house) × (map said_line r.1.now ≡ first.rest)
+
+-- the same of the cells that the second line says
+abbrev pub IsStored : Stored → Result (ℕ × ℕ) Flaw × Bor (List scripts.Said) → Type 0
+IsStored stored r = (r.0 ≡ stored.cells) × (map said_line r.1.now ≡ stored.rest)
+
+-- a script that was read says what a text of so many lines means, and nothing is wrong with it
+pub record IsScript (meant : Meant) (end : ℕ) (script : Script) : Type 0 where
+  pub sound : meant.flaws ≡ []
+  pub house : meant.house ≡ Ok script.house
+  pub cells : meant.cells ≡ Ok (script.cells, script.cells_line)
+  pub calls : map call_of_line script.lines.items ≡ meant.calls
+  pub ended : script.end ≡ end
+
+-- a text that is no script: its flaws are told, and there are some
+pub record IsFaulty (meant : Meant) (flaws : List Flaw) : Type 0 where
+  pub some : 0 < length flaws
+  pub all : flaws ≡ meant.flaws
+
+-- what comes of reading a text; want of memory may come at any
+abbrev pub IsReading : List ℕ → Result Script ScriptError → Type 0
+IsReading text (Ok script) = IsScript (script_of text) (length (lines_of text)) script
+IsReading text (Err (Faulty flaws)) = IsFaulty (script_of text) flaws.all.items
+IsReading text (Err NoMemory) = ⊤

@@ -1,7 +1,6 @@
 -- What a script says, and what is wrong with its lines. Assumes nothing.
-use Rattle.std.specs.Prelude.{◌≡◌, ℕ, suc, Bool, true, false, if◌then◌else◌, ⊤, List, [], ◌∷◌, ◌++◌, map, length, Some, None, Option, Result, Ok, Err, codes}
+use Rattle.std.specs.Prelude.{◌≡◌, ℕ, suc, Bool, true, false, if◌then◌else◌, ⊤, List, [], ◌∷◌, ◌++◌, map, drop, length, Some, None, Option, Result, Ok, Err, codes}
 use Rattle.std.specs.List.{list_all}
-use Rattle.std.specs.Result.{result_ok}
 use Rattle.std.specs.Str.{bytes_eq}
 use Rattle.values.specs.Rules.{Rules}
 use Rattle.values.specs.Cells.{Held}
@@ -26,7 +25,7 @@ pub record Said : Type 0 where
   pub number : ℕ
   pub words : List (List ℕ)
 
-abbrev unless_blank : ℕ → List (List ℕ) → List Said
+abbrev pub unless_blank : ℕ → List (List ℕ) → List Said
 unless_blank number [] = []
 unless_blank number (word ∷ words) = record { number = number; words = word ∷ words } ∷ []
 
@@ -61,7 +60,8 @@ abbrev pub kept : Option ValueKind → machine.Call → Result machine.Call Wron
 kept None call = Ok call
 kept (Some kind) call = if keeps (rules_of kind) call then Ok call else Err (wrong.Refused Value)
 
-abbrev pub wrongly : {X : Type 0} → Result X Expected → (X → Result X Wrong) → Result X Wrong
+-- what is not understood is wrong; what is understood goes on
+abbrev pub wrongly : {X Y : Type 0} → Result X Expected → (X → Result Y Wrong) → Result Y Wrong
 wrongly (Ok x) next = next x
 wrongly (Err what) next = Err (wrong.Expected what)
 
@@ -69,81 +69,83 @@ wrongly (Err what) next = Err (wrong.Expected what)
 abbrev pub judged : Option ValueKind → List (List ℕ) → Result machine.Call Wrong
 judged kind words = wrongly (call_in words) (kept kind)
 
--- a flaw of a line, if something is wrong with it
-abbrev pub flaw_of : {X : Type 0} → ℕ → Result X Wrong → List Flaw
-flaw_of number (Ok x) = []
-flaw_of number (Err what) = record { line = number; wrong = what } ∷ []
+-- the same of a line with its number: what is wrong is its flaw
+abbrev pub at_line : {X : Type 0} → ℕ → Result X Wrong → Result X Flaw
+at_line number (Ok x) = Ok x
+at_line number (Err what) = Err (record { line = number; wrong = what })
 
--- the calls of lines, and their flaws
-abbrev pub call_of : Result machine.Call Wrong → List machine.Call
-call_of (Ok call) = call ∷ []
-call_of (Err what) = []
+abbrev pub flaw_of : {X : Type 0} → Result X Flaw → List Flaw
+flaw_of (Ok x) = []
+flaw_of (Err flaw) = flaw ∷ []
 
-abbrev pub calls_in : Option ValueKind → List Said → List machine.Call
+-- the calls of lines, each with the number of its line, and their flaws
+abbrev pub call_of : ℕ → Result machine.Call Flaw → List (ℕ × machine.Call)
+call_of number (Ok call) = (number, call) ∷ []
+call_of number (Err flaw) = []
+
+abbrev pub call_at : Option ValueKind → Said → Result machine.Call Flaw
+call_at kind said = at_line said.number (judged kind said.words)
+
+abbrev pub calls_in : Option ValueKind → List Said → List (ℕ × machine.Call)
 calls_in kind [] = []
-calls_in kind (said ∷ more) = call_of (judged kind said.words) ++ calls_in kind more
+calls_in kind (said ∷ more) = call_of said.number (call_at kind said) ++ calls_in kind more
 
 abbrev pub call_flaws : Option ValueKind → List Said → List Flaw
 call_flaws kind [] = []
-call_flaws kind (said ∷ more) = flaw_of said.number (judged kind said.words) ++ call_flaws kind more
+call_flaws kind (said ∷ more) = flaw_of (call_at kind said) ++ call_flaws kind more
 
--- the cells of a store where the second line does not say them: as many as the largest block needs
-abbrev pub plenty : ℕ
-plenty = MOST_CELLS
-
--- the cells that a script says, if its second line says them, and the lines behind
-pub record Store : Type 0 where
-  pub cells : Result ℕ Wrong
-  pub number : ℕ
-  pub rest : List Said
-
-abbrev pub plain_store : List Said → Store
-plain_store said = record { cells = Ok plenty; number = 0; rest = said }
-
-abbrev store_by : Bool → Said → List (List ℕ) → List Said → Store
-store_by true said words more = record { cells = wrongly (cells_in words) (λ cells. Ok cells); number = said.number; rest = more }
-store_by false said words more = plain_store (said ∷ more)
-
-abbrev store_with : Said → List (List ℕ) → List Said → Store
-store_with said [] more = plain_store (said ∷ more)
-store_with said (word ∷ words) more = store_by (bytes_eq word (codes "cells")) said words more
-
-abbrev pub store_in : List Said → Store
-store_in [] = plain_store []
-store_in (said ∷ more) = store_with said said.words more
-
--- the first line, and the lines behind it; `end` is the number of the line that is told where there is none
+-- the first line, and the lines behind it; where there is none, the line `end` is told
 pub record First : Type 0 where
-  pub house : Result House Wrong
-  pub number : ℕ
+  pub house : Result House Flaw
   pub rest : List Said
+
+abbrev pub house_at : Said → Result House Flaw
+house_at said = at_line said.number (wrongly (house_in said.words) (λ house. Ok house))
 
 abbrev pub first_in : (end : ℕ) → List Said → First
-first_in end [] = record { house = Err (wrong.Expected expected.Kind); number = end; rest = [] }
-first_in end (said ∷ more) = record { house = wrongly (house_in said.words) (λ house. Ok house); number = said.number; rest = more }
+first_in end [] = record { house = at_line end (Err (wrong.Expected expected.Kind)); rest = [] }
+first_in end (said ∷ more) = record { house = house_at said; rest = more }
 
-abbrev pub kind_said : Option House → Option ValueKind
-kind_said None = None
-kind_said (Some house) = Some house.kind
+-- the cells of the store and the number of the line that says them, if the second line does, and the lines behind it;
+-- else as many cells as the largest block needs, and line 0
+pub record Stored : Type 0 where
+  pub cells : Result (ℕ × ℕ) Flaw
+  pub rest : List Said
+
+abbrev pub plenty : List Said → Stored
+plenty said = record { cells = Ok (MOST_CELLS, 0); rest = said }
+
+abbrev pub cells_at : ℕ → List (List ℕ) → Result (ℕ × ℕ) Flaw
+cells_at number words = at_line number (wrongly (cells_in words) (λ cells. Ok (cells, number)))
+
+abbrev pub says_cells : List (List ℕ) → Bool
+says_cells [] = false
+says_cells (word ∷ words) = bytes_eq word (codes "cells")
+
+abbrev pub stored_in : List Said → Stored
+stored_in [] = plenty []
+stored_in (said ∷ more) = if says_cells said.words then record { cells = cells_at said.number (drop 1 said.words); rest = more } else plenty (said ∷ more)
+
+abbrev pub kind_said : Result House Flaw → Option ValueKind
+kind_said (Ok house) = Some house.kind
+kind_said (Err flaw) = None
 
 -- what a script says: its first line, its store and its calls, with the flaws of all its lines
 pub record Meant : Type 0 where
-  pub house : Result House Wrong
-  pub cells : Result ℕ Wrong
-  pub calls : List machine.Call
+  pub house : Result House Flaw
+  pub cells : Result (ℕ × ℕ) Flaw
+  pub calls : List (ℕ × machine.Call)
   pub flaws : List Flaw
 
-abbrev pub meant_by : First → Store → Meant
-meant_by first store =
-    let kind = kind_said (result_ok first.house) in
-    record {
-      house = first.house;
-      cells = store.cells;
-      calls = calls_in kind store.rest;
-      flaws = flaw_of first.number first.house ++ (flaw_of store.number store.cells ++ call_flaws kind store.rest);
-    }
+abbrev pub meant_by : First → Stored → Meant
+meant_by first stored = record {
+  house = first.house;
+  cells = stored.cells;
+  calls = calls_in (kind_said first.house) stored.rest;
+  flaws = flaw_of first.house ++ (flaw_of stored.cells ++ call_flaws (kind_said first.house) stored.rest);
+}
 
 abbrev pub script_of : List ℕ → Meant
 script_of text =
     let first = first_in (length (lines_of text)) (said_in text) in
-    meant_by first (store_in first.rest)
+    meant_by first (stored_in first.rest)

@@ -1,3 +1,6 @@
+ghost use Rattle.std.specs.Prelude.{◌≡◌};
+
+use std::alloc::AllocError;
 use std::error::Error;
 use std::fmt;
 use values::Refusal;
@@ -78,3 +81,58 @@ impl fmt::Display for Flaw {
 }
 
 impl Error for Flaw {}
+
+/// How many faulty lines are told at most.
+const MOST_TOLD: usize = 20;
+
+/// The flaws of a script's lines, in their order. Displays as a line for each, twenty at most, and one for the rest.
+#[derive(Drop)]
+pub struct Flaws {
+    /// All of them.
+    pub all: Vec<Flaw>,
+}
+
+impl fmt::Display for Flaws {
+    fn fmt<W: fmt::Write>(&self, f: &mut fmt::Formatter<W>) -> fmt::Result {
+        let told = self.all.len().min(MOST_TOLD);
+        for (index, flaw) in self.all[..told].iter().enumerate() {
+            if index > 0 {
+                f.write_str("\n")?;
+            }
+            write!(f, "{flaw}")?;
+        }
+        let more = self.all.len() - told;
+        if more > 0 {
+            write!(f, "\nmore faulty lines: {more}")?;
+        }
+        Ok(())
+    }
+}
+
+/// Why there is no script. Displays as lines for people.
+#[derive(Drop)]
+pub enum ScriptError {
+    /// Some of its lines are faulty.
+    Faulty(Flaws),
+    /// The heap has not enough memory for it.
+    NoMemory,
+}
+
+impl fmt::Display for ScriptError {
+    fn fmt<W: fmt::Write>(&self, f: &mut fmt::Formatter<W>) -> fmt::Result {
+        match self {
+            ScriptError::Faulty(flaws) => write!(f, "{flaws}"),
+            ScriptError::NoMemory => f.write_str("there is not memory enough"),
+        }
+    }
+}
+
+impl From<AllocError> for ScriptError {
+    ghost use Rattle.script.specs.declared.flaws.ScriptError.TheVariants.{NoMemory};
+
+    ghost from_gives = { λ _ r. r ≡ NoMemory };
+
+    fn from(_: AllocError) -> ScriptError {
+        ScriptError::NoMemory
+    }
+}

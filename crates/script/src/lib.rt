@@ -11,6 +11,7 @@ mod words;
 mod writing;
 
 pub use figures::Figure;
-pub use flaws::{Expected, Flaw, Wrong};
-pub use scripts::{House, Line, ValueKind};
+pub use flaws::{Expected, Flaw, Flaws, ScriptError, Wrong};
+pub use scripts::{House, Line, Script, ValueKind, read};
 pub use statements::Statement;
+pub use writing::{put_figure, put_number, put_set};

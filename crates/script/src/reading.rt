@@ -65,8 +65,8 @@ fn next_set<'w>(words: Words<'w>) -> Result<(Set, Words<'w>), Expected>
     Ok((set, rest))
 }
 
-// Whether a word is this one.
-fn is(word: &[u8], name: &str) -> bool
+/// Whether a word is this one.
+pub(crate) fn is(word: &[u8], name: &str) -> bool
     ensures { result ≡ bytes_eq word.now name.now }
 {
     word == name.as_bytes()
