@@ -1,5 +1,5 @@
 -- A text that is cut at the first byte that passes a test.
-use Rattle.std.proofs.Common.{◌≡◌, ℕ, ◌+◌, ◌<◌, ◌≤◌, Bool, List, [], ◌∷◌, length, take, drop, take_all, Some, None, MatchOption, Option, arith, subst, sym, refl, is_some, true}
+use Rattle.std.proofs.Common.{◌≡◌, ℕ, ◌+◌, ◌<◌, ◌≤◌, Bool, List, [], ◌∷◌, length, take, drop, take_all, Some, None, MatchOption, Option, arith, subst, refl, is_some, true}
 use Rattle.std.specs.Prelude.{position}
 use Rattle.std.specs.Option.{option_map_or}
 use denote.Ref.{Bor}

@@ -1,15 +1,13 @@
 -- What was written is read again: words, numbers, figures and sets.
-use Rattle.std.proofs.Common.{◌≡◌, ℕ, zero, suc, ◌+◌, ◌^◌, ◌<◌, ◌≤◌, Bool, true, false, ◌&&◌, List, [], ◌∷◌, ◌++◌, length, map, filter, decimal, Some, None, Option, ◌==◌, nat_lt, refl, ap, sym, ◌∙◌, rules, arith, subst, append_assoc, append-nil, All, get_or}
-use Rattle.std.specs.List.{join_with_byte, slice_split, before_first, list_all, AllByRecursion}
-use Rattle.std.specs.Char.{is_ascii_digit}
-use Rattle.std.specs.Str.Parse.{AllDigits, digits_value}
+use Rattle.std.proofs.Common.{◌≡◌, ℕ, zero, suc, ◌^◌, ◌<◌, ◌≤◌, Bool, true, false, List, [], ◌∷◌, ◌++◌, length, map, decimal, Some, nat_lt, refl, ap, sym, ◌∙◌, rules, arith, append-nil, All, get_or}
+use Rattle.std.specs.List.{join_with_byte, slice_split, list_all, AllByRecursion}
+use Rattle.std.specs.Str.Parse.{AllDigits}
 use Rattle.std.proofs.lemmas.List.Splits.{slice_split_none, slice_split_at}
 use Rattle.std.proofs.lemmas.Fmt.{decimal_is_IsNumeral}
 use Rattle.std.proofs.lemmas.Str.Parse.{digit_from_value}
-use Rattle.std.proofs.lemmas.Bool.{and_parts, and_from, cond-true}
+use Rattle.std.proofs.lemmas.Bool.{and_parts}
 use Rattle.std.proofs.lemmas.Bool.Decides.{nat_tests}
-use Rattle.script.specs.Words.{is_blank, is_hash, is_some_text, words_of}
-use Rattle.script.specs.Numbers.{number_below, numbers_below, is_numeral}
+use Rattle.script.specs.Numbers.{number_below, numbers_below}
 use Rattle.script.specs.Written.{behind_blanks}
 use Rattle.script.proofs.Numbering.{own}
 

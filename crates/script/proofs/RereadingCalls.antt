@@ -1,5 +1,5 @@
 -- A call that was written is read again.
-use Rattle.std.proofs.Common.{◌≡◌, ℕ, zero, suc, ◌+◌, ◌-◌, ◌%◌, ◌^◌, ◌<◌, ◌≤◌, Bool, true, false, if◌then◌else◌, ◌⊎◌, List, [], ◌∷◌, ◌++◌, length, map, filter, decimal, fold, codes, Some, None, Option, Ok, ◌==◌, ◌≢◌, ◌&&◌, not, nat_lt, slice_index, refl, ap, sym, ◌∙◌, rules, arith, subst, append_assoc, length-append, take, take_all, take_at, add-one}
+use Rattle.std.proofs.Common.{◌≡◌, ℕ, zero, suc, ◌+◌, ◌^◌, ◌<◌, ◌≤◌, Bool, true, false, if◌then◌else◌, ◌⊎◌, List, [], ◌∷◌, ◌++◌, length, map, filter, decimal, fold, replicate, codes, Some, None, Ok, ◌==◌, ◌≢◌, ◌&&◌, not, nat_lt, slice_index, refl, ap, sym, ◌∙◌, rules, arith, subst, length-append, take, take_all, take_at, add-one}
 use Rattle.std.specs.List.{join_with_byte, between, slice_split, before_first, position_or_len, prefix_len, list_all, AllByRecursion}
 use Rattle.std.specs.Option.{option_map, option_and_then, ok_or}
 use Rattle.std.proofs.lemmas.Bool.{and_parts, and_from, cond-true}
@@ -18,10 +18,15 @@ use Rattle.models.specs.declared.sets.TheConstants.{MOST_CONTROLLERS}
 use Rattle.models.specs.Sets.{has}
 use Rattle.protocol.specs.Machine as machine
 use Rattle.script.specs.Words.{is_blank, is_hash, is_some_text, words_of}
-use Rattle.script.specs.Numbers.{number_below, number_of, numbers_below, is_numeral, is_slash, is_comma, figure_of, figure_in, set_of, set_in, set_with, with_member, members_of, braced}
-use Rattle.script.specs.Lines.{first, number_first, set_first, cell_first, cell_of, figures_in, call_in}
+use Rattle.script.specs.Numbers.{numbers_below, is_slash, is_comma, figure_of, figure_in, set_of, set_in, set_with, with_member, members_of, braced}
+use Rattle.script.specs.Lines.{◌and_then◌, first, kind_of, model_of, stamps_in, house_in, number_first, set_first, cell_first, figures_in, call_in}
 use Rattle.script.specs.declared.flaws.Expected.TheVariants as expected
-use Rattle.script.specs.Written.{written_figure, written_set, written_cell, members_below, words_for, written, IsFigure, IsSet, IsCell, IsNumber, IsWritable}
+use Rattle.script.specs.Written.{written_figure, written_set, written_cell, members_below, words_for, written, IsFigure, IsSet, IsCell, IsNumber, IsWritable, kind_word, model_word, written_house}
+use Rattle.models.specs.declared.standards.Standard.{Standard}
+use Rattle.models.specs.declared.standards.Standard.TheVariants.{Aware, Unaware, Buffered, Carried, Fixed}
+use Rattle.script.specs.declared.scripts.House.{House}
+use Rattle.script.specs.declared.scripts.ValueKind.{ValueKind}
+use Rattle.script.specs.declared.scripts.ValueKind.TheVariants.{Setpoint, Sheet}
 use Rattle.script.proofs.Rereading.{above, cut_again, decimal_above, number_again, numbers_again}
 
 all_digits : (xs : List ℕ) → AllByRecursion (λ x. x < 2 ^ 64) xs → list_all (above 47) (map decimal xs) ≡ true
@@ -303,3 +308,33 @@ call_again (machine.Forge sender receiver column cell) h =
     ap call_in (call_words (machine.Forge sender receiver column cell) h) ∙ search (rules, a, b, c, d)
 call_again machine.Close h = ap call_in (call_words machine.Close h)
 call_again (machine.Decision controller) h = let a = number_first_again controller [] h in ap call_in (call_words (machine.Decision controller) h) ∙ search (rules, a)
+
+-- A first line.
+stamped_words : (n : ℕ) → list_all is_word (replicate n (codes "stamped")) ≡ true
+stamped_words zero = refl
+stamped_words (suc n) = stamped_words n
+
+stamps_again : (n : ℕ) → stamps_in (replicate n (codes "stamped")) ≡ Ok n
+stamps_again zero = refl
+stamps_again (suc n) = ap (λ r. r and_then λ layers. Ok (suc layers)) (stamps_again n)
+
+kind_again : (kind : ValueKind) → (kind_of (kind_word kind) ≡ Some kind) × (is_word (kind_word kind) ≡ true)
+kind_again Setpoint = (refl, refl)
+kind_again Sheet = (refl, refl)
+
+model_again : (model : Standard) → (model_of (model_word model) ≡ Some model) × (is_word (model_word model) ≡ true)
+model_again Aware = (refl, refl)
+model_again Unaware = (refl, refl)
+model_again Buffered = (refl, refl)
+model_again Carried = (refl, refl)
+model_again Fixed = (refl, refl)
+
+pub house_again : (h : House) → house_in (words_of (written_house h)) ≡ Ok h
+house_again h =
+    let kind = kind_again h.kind in
+    let model = model_again h.base in
+    let stamps = stamps_again h.stamps in
+    let word = kind.0 in
+    let name = model.0 in
+    ap house_in (words_again (kind_word h.kind) (model_word h.base ∷ replicate h.stamps (codes "stamped")) (and_from _ _ kind.1 (and_from _ _ model.1 (stamped_words h.stamps))))
+    ∙ search (rules, word, name, stamps)

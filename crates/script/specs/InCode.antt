@@ -1,5 +1,5 @@
 -- What is read in code, by what the definitions read. Assumes nothing.
-use Rattle.std.specs.Prelude.{◌≡◌, ℕ, ◌<◌, ⊤, map, length, List, [], ◌∷◌, Result, Ok, Err}
+use Rattle.std.specs.Prelude.{◌≡◌, ℕ, ◌<◌, ⊤, map, length, List, [], Result, Ok, Err}
 use denote.Ref.{Bor}
 use Rattle.script.specs.declared.flaws.Expected.{Expected}
 use Rattle.script.specs.declared.flaws.Flaw.{Flaw}

@@ -1,5 +1,5 @@
 -- What the words of a line say. Assumes nothing.
-use Rattle.std.specs.Prelude.{◌≡◌, ℕ, suc, ⊤, if◌then◌else◌, List, [], ◌∷◌, Some, None, Option, Result, Ok, Err, codes}
+use Rattle.std.specs.Prelude.{ℕ, suc, if◌then◌else◌, List, [], ◌∷◌, Some, None, Option, Result, Ok, Err, codes}
 use Rattle.std.specs.Option.{option_map, ok_or}
 use Rattle.std.specs.Str.{bytes_eq}
 use Rattle.values.specs.Cells.{Held}

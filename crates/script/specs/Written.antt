@@ -1,10 +1,15 @@
 -- How calls are written. Assumes nothing.
-use Rattle.std.specs.Prelude.{◌≡◌, ℕ, zero, suc, ◌^◌, ◌<◌, ◌⊎◌, ⊤, if◌then◌else◌, List, [], ◌∷◌, ◌++◌, map, length, Some, None, Option, codes, decimal}
+use Rattle.std.specs.Prelude.{◌≡◌, ℕ, zero, suc, ◌^◌, ◌<◌, ◌⊎◌, ⊤, if◌then◌else◌, List, [], ◌∷◌, ◌++◌, map, length, Some, None, codes, decimal, replicate}
 use Rattle.std.specs.List.{join_with_byte, AllByRecursion}
 use Rattle.models.specs.Sets.{has}
 use Rattle.models.specs.declared.sets.TheConstants.{MOST_CONTROLLERS}
 use Rattle.values.specs.Cells.{Held}
 use Rattle.protocol.specs.Machine as machine
+use Rattle.models.specs.declared.standards.Standard.{Standard}
+use Rattle.models.specs.declared.standards.Standard.TheVariants.{Aware, Unaware, Buffered, Carried, Fixed}
+use Rattle.script.specs.declared.scripts.House.{House}
+use Rattle.script.specs.declared.scripts.ValueKind.{ValueKind}
+use Rattle.script.specs.declared.scripts.ValueKind.TheVariants.{Setpoint, Sheet}
 
 -- a figure: its numbers, with a slash between two
 abbrev pub written_figure : List ℕ → List ℕ
@@ -61,3 +66,21 @@ IsWritable (machine.Seat set) = IsSet set
 IsWritable (machine.Forge sender receiver column cell) = IsNumber sender × IsNumber receiver × IsNumber column × IsCell cell
 IsWritable machine.Close = ⊤
 IsWritable (machine.Decision controller) = IsNumber controller
+
+abbrev pub kind_word : ValueKind → List ℕ
+kind_word Setpoint = codes "setpoint"
+kind_word Sheet = codes "sheet"
+
+abbrev pub model_word : Standard → List ℕ
+model_word Aware = codes "aware"
+model_word Unaware = codes "unaware"
+model_word Buffered = codes "buffered"
+model_word Carried = codes "carried"
+model_word Fixed = codes "fixed"
+
+-- the words of a first line: a word `stamped` for each layer of stamps
+abbrev pub words_of_house : House → List (List ℕ)
+words_of_house h = kind_word h.kind ∷ model_word h.base ∷ replicate h.stamps (codes "stamped")
+
+abbrev pub written_house : House → List ℕ
+written_house h = join_with_byte 32 (words_of_house h)

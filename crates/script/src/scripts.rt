@@ -198,10 +198,7 @@ impl<'t> Said<'t> {
 }
 
 // What the first line says, and the lines behind it. Where there is none, the line `end` is told.
-fn split_house<'s, 't>(
-    said: &'s [Said<'t>],
-    end: usize,
-) -> (Result<House, Flaw>, &'s [Said<'t>])
+fn split_house<'s, 't>(said: &'s [Said<'t>], end: usize) -> (Result<House, Flaw>, &'s [Said<'t>])
     ensures { IsFirst (first_in end (map said_line said.now)) result }
 {
     match said.split_first() {
@@ -217,9 +214,7 @@ fn split_house<'s, 't>(
 }
 
 // The cells of the store with the number of the line that says them, and the lines behind.
-fn split_cells<'s, 't>(
-    said: &'s [Said<'t>],
-) -> (Result<(usize, usize), Flaw>, &'s [Said<'t>])
+fn split_cells<'s, 't>(said: &'s [Said<'t>]) -> (Result<(usize, usize), Flaw>, &'s [Said<'t>])
     ensures { IsStored (stored_in (map said_line said.now)) result }
 {
     if let Some((first, rest)) = said.split_first()

@@ -1,11 +1,12 @@
-ghost use Rattle.std.specs.Prelude.{◌≡◌, if◌then◌else◌, [], ◌∷◌, ◌++◌, map, decimal, string_bytes, OnOk};
+ghost use Rattle.std.specs.Prelude.{◌≡◌, if◌then◌else◌, [], ◌∷◌, ◌++◌, map, codes, decimal, replicate, string_bytes, OnOk};
 ghost use Rattle.std.specs.Option.{option_map};
 ghost use Rattle.script.specs.Figures.{numbers_of};
-ghost use Rattle.script.specs.Written.{written_figure, written_set, written_cell, behind_blanks};
+ghost use Rattle.script.specs.Written.{written_figure, written_set, written_cell, behind_blanks, kind_word, model_word};
 
 use crate::figures::Figure;
+use crate::scripts::{House, ValueKind};
 use crate::statements::Statement;
-use models::{MOST_CONTROLLERS, Set};
+use models::{MOST_CONTROLLERS, Set, Standard};
 use run::Place;
 use std::alloc::AllocError;
 use values::{Cell, Shares};
@@ -165,5 +166,57 @@ impl Statement<Figure> {
                 put_number_behind(*controller, out)
             }
         }
+    }
+}
+
+fn kind_name(kind: ValueKind) -> &'static str
+    ensures { result.now ≡ kind_word kind }
+{
+    match kind {
+        ValueKind::Setpoint => "setpoint",
+        ValueKind::Sheet => "sheet",
+    }
+}
+
+fn model_name(model: Standard) -> &'static str
+    ensures { result.now ≡ model_word model }
+{
+    match model {
+        Standard::Aware => "aware",
+        Standard::Unaware => "unaware",
+        Standard::Buffered => "buffered",
+        Standard::Carried => "carried",
+        Standard::Fixed => "fixed",
+    }
+}
+
+// Adds the word `stamped` so often, each behind a blank.
+fn put_stamps(layers: usize, out: &mut String) -> Result<(), AllocError>
+    ensures { OnOk result (string_bytes out.new ≡ string_bytes out.old ++ behind_blanks (replicate layers (codes "stamped"))) }
+{
+    let mut left = layers;
+    while left > 0 {
+        out.push_str(" stamped")?;
+        left -= 1;
+    }
+    Ok(())
+}
+
+impl House {
+    ghost use Rattle.std.specs.Prelude.{◌≡◌, ◌++◌, string_bytes, OnOk, Ok};
+    ghost use Rattle.script.specs.Words.{words_of};
+    ghost use Rattle.script.specs.Lines.{house_in};
+    ghost use Rattle.script.specs.Written.{written_house};
+
+    /// Adds the first line of a script that says this. Read again, the line says it.
+    #[tactic(auto, using(crate::proofs::RereadingCalls::house_again))]
+    pub fn write(&self, out: &mut String) -> Result<(), AllocError>
+        ensures text { OnOk result (string_bytes out.new ≡ string_bytes out.old ++ written_house self.now) }
+        ensures back { house_in (words_of (written_house self.now)) ≡ Ok self.now }
+    {
+        out.push_str(kind_name(self.kind))?;
+        out.push_str(" ")?;
+        out.push_str(model_name(self.base))?;
+        put_stamps(self.stamps, out)
     }
 }

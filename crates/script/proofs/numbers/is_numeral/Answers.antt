@@ -1,4 +1,4 @@
-use Rattle.std.proofs.Common.{rules, tests, ap, arith, ◌∙◌}
+use Rattle.std.proofs.Common.{rules, tests, arith}
 use Rattle.std.specs.Char.{is_ascii_digit}
 use Rattle.std.proofs.lemmas.Iterator.{YieldsList-from_slice}
 use Rattle.std.proofs.lemmas.Iterator.Search.{all_from_yields_List}

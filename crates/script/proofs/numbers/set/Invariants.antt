@@ -1,4 +1,4 @@
-use Rattle.std.proofs.Common.{◌≡◌, ℕ, suc, List, [], length, fold}
+use Rattle.std.proofs.Common.{◌≡◌, suc, [], length, fold}
 use Rattle.std.specs.Option.{option_map, option_map_or}
 use Rattle.std.specs.List.{slice_split}
 use Rattle.models.specs.declared.sets.TheConstants.{MOST_CONTROLLERS}
