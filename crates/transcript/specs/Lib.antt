@@ -2,3 +2,4 @@ pub mod Layers
 pub mod Rows
 pub mod Outcomes
 pub mod Tallies
+pub mod Told

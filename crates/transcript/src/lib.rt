@@ -6,6 +6,7 @@ mod outcomes;
 mod performing;
 mod rows;
 mod tallies;
+mod telling;
 
 pub use layers::Layered;
 pub use outcomes::{Decisions, Outcome, outcome_of};

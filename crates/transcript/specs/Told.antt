@@ -1,0 +1,59 @@
+-- The text of a transcript. Only the words of a refusal are left open: they are some words of plain print.
+use Rattle.std.specs.Prelude.{◌≡◌, ℕ, suc, ◌+◌, ◌/◌, if◌then◌else◌, List, [], ◌∷◌, ◌++◌, Some, None, Option, codes, decimal}
+use Rattle.std.specs.Option.{option_or, option_map, unwrap_or}
+use Rattle.values.specs.Cells.{Held}
+use Rattle.values.specs.Refusals.{number_of, IsOneLine}
+use Rattle.protocol.specs.declared.stages.Stage.{Stage}
+use Rattle.protocol.specs.declared.stages.Stage.TheVariants.{Proposing, Collecting, Deciding, Maintaining}
+use Rattle.protocol.specs.Stages.{stage_of, coordinator_of}
+use Rattle.protocol.specs.Machine as machine
+use Rattle.protocol.specs.Transcripts.{Transcript, Entry, Opening, accepted, opening_in, closes_in}
+use Rattle.script.specs.Written.{written, written_set, written_figure}
+
+-- the phase of a round, and who coordinates it
+abbrev pub coordinated : (phase : ℕ) → List ℕ
+coordinated phase = codes ", phase " ++ (decimal phase ++ (codes ", coordinator " ++ decimal (coordinator_of phase)))
+
+-- what a round is for
+abbrev pub purpose : Stage → (phase : ℕ) → List ℕ
+purpose Proposing phase = codes "proposing" ++ coordinated phase
+purpose Collecting phase = codes "collecting" ++ coordinated phase
+purpose Deciding phase = codes "deciding" ++ coordinated phase
+purpose Maintaining phase = codes "maintaining"
+
+-- the line about a round of a block of n that begins with a set
+abbrev pub round_line : (n round set : ℕ) → List ℕ
+round_line n round set = codes "# round " ++ (decimal round ++ (codes ": " ++ (purpose (stage_of n round) (round / 3) ++ (codes ", seated " ++ (written_set set ++ codes "\n")))))
+
+-- what is said of a decision's cell
+abbrev pub told_cell : Held → List ℕ
+told_cell None = codes "none"
+told_cell (Some numbers) = written_figure numbers
+
+-- what is said of an answer
+abbrev pub TellsAnswer : machine.Answer → List ℕ → Type 0
+TellsAnswer machine.Done text = text ≡ codes "accepted"
+TellsAnswer (machine.Decided cell) text = text ≡ told_cell cell
+TellsAnswer (machine.Refused why) text = (words : List ℕ) × IsOneLine words × (text ≡ codes "refused " ++ (decimal (number_of why) ++ (codes ": " ++ words)))
+
+-- the line of a round that a call begins: an accepted seat does; the number of the round is how many were closed before
+abbrev pub begun : (n closed : ℕ) → machine.Call → machine.Answer → List ℕ
+begun n closed (machine.Open m t proposals initial) answer = []
+begun n closed (machine.Seat set) answer = if accepted answer then round_line n closed set else []
+begun n closed (machine.Forge j i k cell) answer = []
+begun n closed machine.Close answer = []
+begun n closed (machine.Decision i) answer = []
+
+-- the lines of a call: that of a round that it begins, and its own, with the call and its answer
+abbrev pub TellsCall : (n closed : ℕ) → Entry → List ℕ → Type 0
+TellsCall n closed e text = (answer : List ℕ) × TellsAnswer e.answer answer × (text ≡ begun n closed e.call e.answer ++ (written e.call ++ (codes "  # " ++ (answer ++ codes "\n"))))
+
+-- how many controllers the block has that was opened first, if one was before or is by this call; 0 where none was
+abbrev pub opened_by : Option ℕ → Entry → Option ℕ
+opened_by before e = option_or before (option_map (λ o. o.n) (opening_in e.call e.answer))
+
+-- the lines of calls, one after another
+abbrev pub TellsCalls : (opened : Option ℕ) (closed : ℕ) → Transcript → List ℕ → Type 0
+TellsCalls opened closed [] text = text ≡ []
+TellsCalls opened closed (e ∷ more) text = (line rest : List ℕ) × (text ≡ line ++ rest) × TellsCall (unwrap_or opened 0) closed e line
+    × TellsCalls (opened_by opened e) (closed + closes_in e.call e.answer) more rest
