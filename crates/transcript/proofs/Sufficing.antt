@@ -1,15 +1,18 @@
 -- More cells than the largest block needs serve no call.
-use Rattle.std.proofs.Common.{◌≡◌, ℕ, ◌+◌, ◌*◌, ◌<◌, ◌≤◌, min, Bool, true, false, ◌||◌, List, [], ◌∷◌, map, Some, None, Option, ◌==◌, nat_lt, nat_le, not, length, refl, ap, sym, ◌∙◌, arith, rules}
+use Rattle.std.proofs.Common.{◌≡◌, ℕ, ◌+◌, ◌*◌, ◌≤◌, min, Bool, true, false, ◌||◌, List, [], ◌∷◌, map, Option, Result, ◌==◌, nat_lt, nat_le, not, length, refl, ap, ◌∙◌, arith}
 use Rattle.std.proofs.Math.Nat.{mul-le-mul_left}
 use Rattle.std.proofs.lemmas.Bool.Decides.{nat_tests}
 use Rattle.values.specs.declared.refusals.Refusal.{Refusal}
 use Rattle.values.specs.declared.refusals.Refusal.TheVariants.{BlockSize, FaultCount, Resilience, StoreSize, ProposalCount, SetMembers}
 use Rattle.values.specs.Rules.{Rules}
 use Rattle.models.specs.Laws.{Meaning}
-use Rattle.protocol.specs.Machine.{Setting, State, Idle, Waiting, Seated, Call, Open, Seat, Forge, Close, Decision, needed, step, open_refusal, misfits, unless, opened, Done, ◌when◌, ◌then◌}
-use Rattle.protocol.specs.Transcripts.{transcript, Entry}
+use Rattle.protocol.specs.Machine.{State, Idle, Waiting, Seated, Call, Open, Seat, Forge, Close, Decision, needed, step, open_refusal, misfits, unless, opened, Done, ◌when◌, ◌then◌}
+use Rattle.protocol.specs.Transcripts.{transcript}
 use Rattle.run.specs.declared.layout.TheConstants.{MOST_CELLS}
-use Rattle.transcript.specs.Rows.{over_cells}
+use Rattle.transcript.specs.Rows.{over_cells, calls_under, ArePerformed}
+use Rattle.run.specs.declared.calls.Answer.{Answer}
+use Rattle.script.specs.declared.figures.Figure.{Figure}
+use Rattle.script.specs.declared.scripts.Line.{Line}
 
 most_needed : (n : ℕ) → n ≤ 16 → needed n ≤ MOST_CELLS
 most_needed n h =
@@ -32,8 +35,8 @@ same_refusal : (k : Rules) (cells : ℕ) (m : Meaning) (n t : ℕ) (proposals : 
     → open_refusal (over_cells k (min cells MOST_CELLS)) m n t proposals initial ≡ open_refusal (over_cells k cells) m n t proposals initial
 same_refusal k cells m n t proposals initial =
     behind (n == 0 || nat_lt 16 n) (λ few. FaultCount when nat_le n t then Resilience when nat_le n ((m.counts t).b + (m.counts t).e + (m.counts t).l)
-      then StoreSize when few then ProposalCount when not (length proposals == n) then SetMembers when misfits n t initial)
-      (nat_lt (min cells MOST_CELLS) (needed n)) (nat_lt cells (needed n)) (λ e. enough cells n (right n e))
+    then StoreSize when few then ProposalCount when not (length proposals == n) then SetMembers when misfits n t initial)
+    (nat_lt (min cells MOST_CELLS) (needed n)) (nat_lt cells (needed n)) (λ e. enough cells n (right n e))
 
 same_step : (k : Rules) (cells : ℕ) (m : Meaning) (s : State) (c : Call) → step (over_cells k (min cells MOST_CELLS)) m s c ≡ step (over_cells k cells) m s c
 same_step k cells m Idle (Open n t proposals initial) = ap (λ refusal. unless refusal Idle (Waiting (opened m n t proposals initial)) Done) (same_refusal k cells m n t proposals initial)
@@ -58,3 +61,9 @@ same_transcript k cells m s (c ∷ calls) =
     let same = same_step k cells m s c in
     (λ i. record { call = c; answer = (same i).1 } ∷ transcript (over_cells k (min cells MOST_CELLS)) m (same i).0 calls)
     ∙ ap (λ rest. record { call = c; answer = (step (over_cells k cells) m s c).1 } ∷ rest) (same_transcript k cells m (step (over_cells k cells) m s c).0 calls)
+
+pub sufficing : (k : Rules) (cells : ℕ) (m : Meaning) (lines : List Line) (answers : List (Result (Answer Figure) Refusal)) → ArePerformed k (min cells MOST_CELLS) m lines answers → ArePerformed k cells m lines answers
+sufficing k cells m lines answers h = record {
+  answered = h.answered ∙ ap (map (λ e. e.answer)) (same_transcript k cells m Idle (calls_under k lines));
+  law = h.law;
+}

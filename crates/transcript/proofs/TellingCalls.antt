@@ -2,7 +2,7 @@
 use Rattle.std.proofs.Common.{◌≡◌, ℕ, ◌+◌, ◌≤◌, List, [], ◌∷◌, ◌++◌, Option, refl, sym, ap, ◌∙◌, arith, append_assoc, append-nil}
 use Rattle.std.specs.Option.{unwrap_or}
 use Rattle.protocol.specs.Machine as machine
-use Rattle.protocol.specs.Transcripts.{Transcript, Entry, accepted, closes_in}
+use Rattle.protocol.specs.Transcripts.{Transcript, Entry, closes_in}
 use Rattle.transcript.specs.Told.{opened_by, TellsCall, TellsCalls}
 
 abbrev pub opened_after : Option ℕ → Transcript → Option ℕ

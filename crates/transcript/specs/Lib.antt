@@ -3,3 +3,4 @@ pub mod Rows
 pub mod Outcomes
 pub mod Tallies
 pub mod Told
+pub mod Replays

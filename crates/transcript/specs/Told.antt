@@ -1,5 +1,5 @@
 -- The text of a transcript. Only the words of a refusal are left open: they are some words of plain print.
-use Rattle.std.specs.Prelude.{◌≡◌, ℕ, suc, ◌+◌, ◌/◌, if◌then◌else◌, List, [], ◌∷◌, ◌++◌, Some, None, Option, codes, decimal}
+use Rattle.std.specs.Prelude.{◌≡◌, ℕ, ◌+◌, ◌/◌, if◌then◌else◌, List, [], ◌∷◌, ◌++◌, Some, None, Option, codes, decimal}
 use Rattle.std.specs.Option.{option_or, option_map, unwrap_or}
 use Rattle.values.specs.Cells.{Held}
 use Rattle.values.specs.Refusals.{number_of, IsOneLine}
@@ -7,8 +7,16 @@ use Rattle.protocol.specs.declared.stages.Stage.{Stage}
 use Rattle.protocol.specs.declared.stages.Stage.TheVariants.{Proposing, Collecting, Deciding, Maintaining}
 use Rattle.protocol.specs.Stages.{stage_of, coordinator_of}
 use Rattle.protocol.specs.Machine as machine
-use Rattle.protocol.specs.Transcripts.{Transcript, Entry, Opening, accepted, opening_in, closes_in}
-use Rattle.script.specs.Written.{written, written_set, written_figure}
+use Rattle.protocol.specs.Transcripts.{Transcript, Entry, accepted, opening_in, closes_in}
+use Rattle.script.specs.Figures.{numbers_of}
+use Rattle.script.specs.Statements.{log_by}
+use Rattle.script.specs.Written.{written, written_house, written_set, written_figure}
+use Rattle.script.specs.declared.scripts.House.{House}
+use Rattle.script.specs.declared.scripts.Script.{Script}
+use Rattle.transcript.specs.declared.outcomes.Decisions.{Decisions}
+use Rattle.transcript.specs.declared.outcomes.Decisions.TheVariants.{Nothing, Equal, Unequal}
+use Rattle.transcript.specs.declared.outcomes.Outcome.{Outcome}
+use Rattle.transcript.specs.declared.replaying.Replay.{Replay}
 
 -- the phase of a round, and who coordinates it
 abbrev pub coordinated : (phase : ℕ) → List ℕ
@@ -57,3 +65,28 @@ abbrev pub TellsCalls : (opened : Option ℕ) (closed : ℕ) → Transcript → 
 TellsCalls opened closed [] text = text ≡ []
 TellsCalls opened closed (e ∷ more) text = (line rest : List ℕ) × (text ≡ line ++ rest) × TellsCall (unwrap_or opened 0) closed e line
     × TellsCalls (opened_by opened e) (closed + closes_in e.call e.answer) more rest
+
+-- the first two lines: what the script votes on, and its cells
+abbrev pub head_lines : House → (cells : ℕ) → List ℕ
+head_lines house cells = written_house house ++ (codes "\ncells " ++ (decimal cells ++ codes "\n"))
+
+-- what is said of the filled decisions
+abbrev pub decisions_line : Decisions → List ℕ
+decisions_line Nothing = codes "# filled decisions: none\n"
+decisions_line (Equal figure) = codes "# filled decisions: all " ++ (written_figure (numbers_of figure) ++ codes "\n")
+decisions_line Unequal = codes "# filled decisions: not all equal\n"
+
+abbrev pub closed_line : (closed : ℕ) → List ℕ
+closed_line closed = codes "# rounds closed: " ++ (decimal closed ++ codes "\n")
+
+abbrev pub clean_line : (clean : ℕ) → List ℕ
+clean_line clean = codes "# clean coordinators: " ++ (written_set clean ++ codes "\n")
+
+-- the last three lines
+abbrev pub outcome_lines : Outcome → List ℕ
+outcome_lines o = closed_line o.closed ++ (clean_line o.clean.0 ++ decisions_line o.decisions)
+
+-- a whole transcript: its first lines, those of its calls, and its last ones
+abbrev pub TellsScript : Script → Replay → List ℕ → Type 0
+TellsScript script replay text = (calls : List ℕ) × TellsCalls None 0 (log_by numbers_of script.lines.items replay.answers.items) calls
+    × (text ≡ head_lines script.house script.cells ++ (calls ++ outcome_lines replay.outcome))

@@ -4,6 +4,7 @@
 mod layers;
 mod outcomes;
 mod performing;
+mod replaying;
 mod rows;
 mod tallies;
 mod telling;
@@ -11,4 +12,5 @@ mod telling;
 pub use layers::Layered;
 pub use outcomes::{Decisions, Outcome, outcome_of};
 pub use performing::perform;
+pub use replaying::{Replay, play_script, tell};
 pub use rows::Scripted;

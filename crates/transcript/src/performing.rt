@@ -9,7 +9,7 @@ ghost use Rattle.transcript.specs.Rows.{calls_under, over_cells, ArePerformed};
 
 use crate::rows::{self, Scripted};
 use models::LawfulModel;
-use run::{Answer, Call, play};
+use run::{Answer, Call, MOST_CELLS, play};
 use script::{Figure, Line, Statement};
 use std::alloc::{AllocError, Global};
 use values::{Cell, Kind, Refusal};
@@ -105,6 +105,22 @@ fn answers<K: Kind, M: LawfulModel>(
     Ok(answers)
 }
 
+// The same as `perform`, over a store of exactly so many cells.
+fn perform_over<K: Scripted, M: LawfulModel>(
+    heap: Global,
+    model: &M,
+    cells: usize,
+    lines: &[Line],
+) -> Result<Vec<Result<Answer<Figure>, Refusal>>, AllocError>
+    ensures count { IfOk result (λ answers. length answers.items ≡ length lines.now) }
+    ensures performed { IfOk result (λ answers. ArePerformed K.rules cells (M.meaning model.now) lines.now answers.items) }
+{
+    let statements = statements::<K>(heap, lines)?;
+    let calls = calls::<K>(heap, &statements)?;
+    let answers = answers::<K, M>(heap, model, cells, &calls)?;
+    figures::<K>(heap, &answers)
+}
+
 /// Performs the calls of lines one after another, all under one model, on a new run over so many empty cells. Returns
 /// the answer or the refusal of each call, in the order of the lines; a refused call does not end it.
 ///
@@ -119,8 +135,6 @@ pub fn perform<K: Scripted, M: LawfulModel>(
     ensures count { IfOk result (λ answers. length answers.items ≡ length lines.now) }
     ensures performed { IfOk result (λ answers. ArePerformed K.rules cells (M.meaning model.now) lines.now answers.items) }
 {
-    let statements = statements::<K>(heap, lines)?;
-    let calls = calls::<K>(heap, &statements)?;
-    let answers = answers::<K, M>(heap, model, cells, &calls)?;
-    figures::<K>(heap, &answers)
+    // More cells than the largest block needs serve no call.
+    perform_over::<K, M>(heap, model, cells.min(MOST_CELLS), lines)
 }

@@ -13,8 +13,8 @@ use script::{Figure, Line, Statement, put_figure, put_number, put_set};
 use std::alloc::AllocError;
 use values::Refusal;
 
-// Adds a name and its number.
-fn put_named(name: &str, number: usize, out: &mut String) -> Result<(), AllocError>
+/// Adds a name and its number.
+pub(crate) fn put_named(name: &str, number: usize, out: &mut String) -> Result<(), AllocError>
     ensures { OnOk result (string_bytes out.new ≡ string_bytes out.old ++ (name.now ++ decimal number)) }
 {
     out.push_str(name)?;
@@ -62,10 +62,7 @@ fn put_round(n: usize, round: usize, set: Set, out: &mut String) -> Result<(), A
 }
 
 // Adds what is said of an answer.
-fn put_answer(
-    answer: &Result<Answer<Figure>, Refusal>,
-    out: &mut String,
-) -> Result<(), AllocError>
+fn put_answer(answer: &Result<Answer<Figure>, Refusal>, out: &mut String) -> Result<(), AllocError>
     ensures { OnOk result ((text : List ℕ) × TellsAnswer (replied answer.now) text × (string_bytes out.new ≡ string_bytes out.old ++ text)) }
 {
     match answer {
