@@ -30,6 +30,8 @@ pub mod rising;
 #[cfg(test)]
 mod run_tests;
 #[cfg(test)]
+mod script_tests;
+#[cfg(test)]
 mod set_tests;
 #[cfg(test)]
 mod setpoint_tests;
