@@ -1,0 +1,4 @@
+pub mod Parting
+pub mod Turning
+pub mod Asking
+pub mod Law

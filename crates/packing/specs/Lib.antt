@@ -1,3 +1,4 @@
 pub mod Bytes
 pub mod Misfits
+pub mod Promises
 pub mod InCode

@@ -1,6 +1,7 @@
 ghost use Rattle.std.specs.Prelude.{◌≡◌, map, None, IfOk};
 ghost use Rattle.script.specs.Statements.{written_call};
 ghost use Rattle.packing.specs.Misfits.{cells_misfit, room_misfit, opened_by, drafted, no_rounds, numbered, behind, packed};
+ghost use Rattle.packing.specs.Promises.{AsksForScript};
 ghost use Rattle.packing.specs.InCode.{drawn, opened, Tells, Finds, Makes};
 
 use crate::drafts::{draft_rounds, is_large};
@@ -67,7 +68,8 @@ fn pack_behind(
 /// A script can be packed if its calls are one open, then rounds (a seat, any forges, a close), and then any decisions,
 /// which leave no trace. A figure of another kind than the script's is written as it is.
 pub fn pack(heap: Global, script: &Script) -> Result<Vec<u8>, PackError>
-    ensures { Makes (λ v. v.items) (packed script.now) result }
+    ensures packed { Makes (λ v. v.items) (packed script.now) result }
+    ensures asks { IfOk result (λ v. AsksForScript script.now v.items) }
 {
     check_cells(script.cells).map_err(|misfit| misfit.at(script.cells_line))?;
     match script.lines.split_first() {
