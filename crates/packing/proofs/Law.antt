@@ -18,7 +18,7 @@ use Rattle.packing.specs.declared.misfits.Misfit.TheVariants.{ProposalCount, Lar
 use Rattle.packing.specs.declared.misfits.PackError.{PackError}
 use Rattle.packing.specs.declared.misfits.Unfit.{Unfit}
 use Rattle.packing.specs.Bytes.{Opened, file_bytes, file_end}
-use Rattle.packing.specs.Misfits.{Draft, Numbered, numbered, no_rounds, is_large, openable, opened_by, drafted, file_of, with_open, of_lines, room_misfit, cells_misfit, packed}
+use Rattle.packing.specs.Packed.{Draft, Numbered, numbered, no_rounds, is_large, openable, opened_by, drafted, file_of, with_open, of_lines, room_misfit, cells_misfit, packed}
 use Rattle.packing.specs.Promises.{AsksFor, AsksForScript}
 use Rattle.packing.specs.InCode.{Makes}
 use Rattle.packing.proofs.Parting.{file_kind}

@@ -18,7 +18,7 @@ use Rattle.packing.specs.declared.drafts.Stage.TheVariants.{Rounds, Seated, Deci
 use Rattle.packing.specs.declared.misfits.Misfit.{Misfit}
 use Rattle.packing.specs.declared.misfits.Unfit.{Unfit}
 use Rattle.packing.specs.Bytes.{Forged}
-use Rattle.packing.specs.Misfits.{Draft, Numbered, no_rounds, turn_misfit, place_misfit, room_misfit, misfit_of, end_misfit, added, drafted, unless}
+use Rattle.packing.specs.Packed.{Draft, Numbered, no_rounds, turn_misfit, place_misfit, room_misfit, misfit_of, end_misfit, added, drafted, unless}
 use Rattle.packing.proofs.Parting.{lined, cell_again}
 
 -- lines in the order of their rounds, which are below m, none of them before the round `last`

@@ -10,7 +10,7 @@ use Rattle.packing.specs.declared.drafts.Draft as code
 use Rattle.packing.specs.declared.drafts.Forgery.{Forgery}
 use Rattle.packing.specs.declared.files.Opening.{Opening}
 use Rattle.packing.specs.Bytes.{Forged, Opened}
-use Rattle.packing.specs.Misfits.{Draft}
+use Rattle.packing.specs.Packed.{Draft}
 
 abbrev pub forged_by : Forgery → Forged
 forged_by x = record { round = x.round; sender = x.sender; receiver = x.receiver; column = x.column; cell = option_map numbers_of x.cell }

@@ -1,4 +1,4 @@
 pub mod Bytes
-pub mod Misfits
+pub mod Packed
 pub mod Promises
 pub mod InCode

@@ -3,11 +3,11 @@ ghost use Rattle.std.specs.Option.{option_map};
 ghost use Rattle.protocol.specs.Machine.{Seat, Forge};
 ghost use Rattle.script.specs.Figures.{numbers_of};
 ghost use Rattle.script.specs.Statements.{written_call};
-ghost use Rattle.packing.specs.Misfits.{is_large, place_misfit, turn_misfit, room_misfit, end_misfit, added, no_rounds, drafted, round_of, numbered, unless, misfit_of};
+ghost use Rattle.packing.specs.Packed.{is_large, place_misfit, turn_misfit, room_misfit, end_misfit, added, no_rounds, drafted, round_of, numbered, unless, misfit_of};
 ghost use Rattle.packing.specs.InCode.{drawn, forged_by, Tells, Makes};
 
 use crate::layouts::Layout;
-use crate::misfits::{Misfit, PackError, Unfit};
+use crate::misfits::{Misfit, PackError};
 use models::Set;
 use run::Place;
 use run_file::MOST_BYTES;
@@ -15,11 +15,8 @@ use script::{Figure, Line, Statement, ValueKind};
 use std::alloc::{AllocError, Global};
 use values::Cell;
 
-// The largest number that one byte tells.
-const MOST_TOLD: usize = 255;
-
 /// What the calls behind the open have come to.
-#[derive(Clone, Copy, PartialEq, Eq, Debug)]
+#[derive(Clone, Copy)]
 pub(crate) enum Stage {
     /// No round is seated, and no decision was asked for.
     Rounds,
@@ -59,7 +56,7 @@ pub(crate) struct Draft {
 pub(crate) fn is_large(number: usize) -> bool
     ensures { result ≡ is_large number }
 {
-    number > MOST_TOLD
+    number > usize::from(u8::MAX)
 }
 
 // Refuses places that a forgery line cannot name.
@@ -137,7 +134,7 @@ impl Draft {
     }
 
     fn seat(&mut self, set: Set) -> Result<(), AllocError>
-        requires { length (drawn self.now).sets ≤ 65535 }
+        requires { length (drawn self.now).sets ≤ MOST_BYTES }
         ensures { OnOk result (drawn self.new ≡ added (drawn self.old) (Seat set.0)) }
     {
         let round = self.sets.len() as u16;
@@ -163,10 +160,11 @@ impl Draft {
     // Adds a call that fits.
     fn add(&mut self, call: &Statement<Figure>) -> Result<(), AllocError>
         requires place { place_misfit (written_call call.now) ≡ None }
-        requires room { length (drawn self.now).sets ≤ 65535 }
+        requires room { length (drawn self.now).sets ≤ MOST_BYTES }
         ensures { OnOk result (drawn self.new ≡ added (drawn self.old) (written_call call.now)) }
     {
         match call {
+            // No open fits here.
             Statement::Open { .. } => {}
             Statement::Seat(set) => self.seat(*set)?,
             Statement::Forge(place, cell) => self.forge(*place, *cell)?,
@@ -175,42 +173,41 @@ impl Draft {
         }
         Ok(())
     }
-}
 
-// Adds a line to a draft, unless it does not fit.
-fn add_line(draft: &mut Draft, kind: ValueKind, n: u8, line: &Line) -> Result<(), PackError>
-    requires { room_misfit kind n (drawn draft.now) ≡ None }
-    ensures added { OnOk result (drawn draft.new ≡ added (drawn draft.old) (written_call line.now.statement)) }
-    ensures fits { Makes (λ x. x) (unless line.now.number (misfit_of kind n (drawn draft.old) (written_call line.now.statement)) (Ok tt)) result }
-    ensures room { OnOk result (room_misfit kind n (drawn draft.new) ≡ None) }
-{
-    let call = &line.statement;
-    check_place(call).map_err(|misfit| misfit.at(line.number))?;
-    check_turn(draft.stage, call).map_err(|misfit| misfit.at(line.number))?;
-    draft.add(call)?;
-    draft
-        .check_room(kind, n)
-        .map_err(|misfit| misfit.at(line.number))?;
-    Ok(())
-}
-
-/// The draft of the lines behind the line of the open.
-pub(crate) fn draft_rounds(
-    heap: Global,
-    kind: ValueKind,
-    n: u8,
-    first: usize,
-    lines: &[Line],
-) -> Result<Draft, PackError>
-    ensures made { Makes drawn (drafted kind n first no_rounds (map numbered lines.now)) result }
-    ensures room { IfOk result (λ draft. room_misfit kind n (drawn draft) ≡ None) }
-{
-    let mut draft = Draft::new(heap);
-    let mut last = first;
-    for line in lines {
-        add_line(&mut draft, kind, n, line)?;
-        last = line.number;
+    // Adds a line, unless it does not fit.
+    fn add_line(&mut self, kind: ValueKind, n: u8, line: &Line) -> Result<(), PackError>
+        requires { room_misfit kind n (drawn self.now) ≡ None }
+        ensures added { OnOk result (drawn self.new ≡ added (drawn self.old) (written_call line.now.statement)) }
+        ensures fits { Makes (λ x. x) (unless line.now.number (misfit_of kind n (drawn self.old) (written_call line.now.statement)) (Ok tt)) result }
+        ensures room { OnOk result (room_misfit kind n (drawn self.new) ≡ None) }
+    {
+        let call = &line.statement;
+        check_place(call).map_err(|misfit| misfit.at(line.number))?;
+        check_turn(self.stage, call).map_err(|misfit| misfit.at(line.number))?;
+        self.add(call)?;
+        self.check_room(kind, n)
+            .map_err(|misfit| misfit.at(line.number))?;
+        Ok(())
     }
-    check_end(draft.stage).map_err(|misfit| misfit.at(last))?;
-    Ok(draft)
+
+    /// The draft of the lines behind the line of an open, for a block of n; or the first of them that does not fit.
+    pub(crate) fn of(
+        heap: Global,
+        kind: ValueKind,
+        n: u8,
+        open_line: usize,
+        lines: &[Line],
+    ) -> Result<Draft, PackError>
+        ensures made { Makes drawn (drafted kind n open_line no_rounds (map numbered lines.now)) result }
+        ensures room { IfOk result (λ draft. room_misfit kind n (drawn draft) ≡ None) }
+    {
+        let mut draft = Draft::new(heap);
+        let mut last = open_line;
+        for line in lines {
+            draft.add_line(kind, n, line)?;
+            last = line.number;
+        }
+        check_end(draft.stage).map_err(|misfit| misfit.at(last))?;
+        Ok(draft)
+    }
 }

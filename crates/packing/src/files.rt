@@ -4,7 +4,7 @@ ghost use Rattle.std.specs.Option.{option_map};
 ghost use Rattle.models.specs.Standards.{code_of};
 ghost use Rattle.script.specs.Figures.{numbers_of};
 ghost use Rattle.packing.specs.Bytes.{two_bytes, value_bytes, blank, cell_bytes, line_bytes, kind_byte, stamps_byte, header_bytes, file_bytes};
-ghost use Rattle.packing.specs.Misfits.{room_misfit};
+ghost use Rattle.packing.specs.Packed.{room_misfit};
 ghost use Rattle.packing.specs.InCode.{drawn, forged_by, opened};
 
 use crate::drafts::{Draft, Forgery};

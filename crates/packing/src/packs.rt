@@ -1,12 +1,12 @@
 ghost use Rattle.std.specs.Prelude.{◌≡◌, map, None, IfOk};
 ghost use Rattle.script.specs.Statements.{written_call};
-ghost use Rattle.packing.specs.Misfits.{cells_misfit, room_misfit, opened_by, drafted, no_rounds, numbered, behind, packed};
+ghost use Rattle.packing.specs.Packed.{cells_misfit, room_misfit, opened_by, drafted, no_rounds, numbered, behind, packed};
 ghost use Rattle.packing.specs.Promises.{AsksForScript};
 ghost use Rattle.packing.specs.InCode.{drawn, opened, Tells, Finds, Makes};
 
-use crate::drafts::{draft_rounds, is_large};
+use crate::drafts::{Draft, is_large};
 use crate::files::{Opening, file};
-use crate::misfits::{Misfit, PackError, Unfit};
+use crate::misfits::{Misfit, PackError};
 use run::MOST_CELLS;
 use script::{Figure, House, Line, Script, Statement, ValueKind};
 use std::alloc::Global;
@@ -59,7 +59,7 @@ fn pack_behind(
     ensures { Makes (λ v. v.items) (behind house (numbered first.now) (map numbered rest.now)) result }
 {
     let opening = open(&first.statement).map_err(|misfit| misfit.at(first.number))?;
-    let draft = draft_rounds(heap, house.kind, opening.n, first.number, rest)?;
+    let draft = Draft::of(heap, house.kind, opening.n, first.number, rest)?;
     Ok(file(heap, house, &opening, &draft)?)
 }
 

@@ -1,5 +1,5 @@
 use Rattle.std.proofs.Common.{rules}
-use Rattle.packing.specs.Misfits.{packed}
+use Rattle.packing.specs.Packed.{packed}
 use Rattle.packing.specs.InCode.{Makes}
 use Rattle.packing.proofs.Law.{made_asks}
 use Rattle.packing.proofs.packs.pack.Goals as goal
