@@ -55,7 +55,7 @@ is_open (Decision controller) o e = absurd (grind (arith, e))
 has_room : (l : ℕ) → (if nat_lt 65535 l then Some NoRoom else None) ≡ None → l ≤ 65535
 has_room l e = grind (arith, nat_tests, e)
 
-no_misfit : (l : ℕ) → l ≤ 65535 → (if nat_lt 65535 l then Some NoRoom else None) ≡ None
+pub no_misfit : (l : ℕ) → l ≤ 65535 → (if nat_lt 65535 l then Some NoRoom else None) ≡ None
 no_misfit l h = grind (arith, nat_tests, h)
 
 small_block : (kind : ValueKind) (n : ℕ) → n ≤ 255 → room_misfit kind n no_rounds ≡ None
@@ -105,7 +105,7 @@ module _ (house : House) where
       let parts = and_parts _ _ keep in
       asks_opened first.number first.call rest bytes (opened_by first.call) parts.0 parts.1 refl e
 
-same_calls : (lines : List Line) → map (λ line. line.call) (map numbered lines) ≡ map (λ line. written_call line.statement) lines
+pub same_calls : (lines : List Line) → map (λ line. line.call) (map numbered lines) ≡ map (λ line. written_call line.statement) lines
 same_calls [] = refl
 same_calls (line ∷ lines) = ap (λ calls. written_call line.statement ∷ calls) (same_calls lines)
 

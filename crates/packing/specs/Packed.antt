@@ -60,8 +60,8 @@ round_of Rounds = 0
 round_of (Seated r) = r
 round_of Decisions = 0
 
--- a draft with one call more: a seat begins the next round, a forge adds to the round that is seated; a decision leaves no trace in a run
--- file, and no open comes here
+-- a draft with one call more: a seat begins the next round, and a forge adds to the round that is seated; decisions
+-- leave no trace in a run file, and no open fits
 abbrev pub added : Draft → Call → Draft
 added d (Open n t proposals initial) = d
 added d (Seat set) = record { stage = Seated (length d.sets); sets = d.sets ++ (set ∷ []); forged = d.forged }

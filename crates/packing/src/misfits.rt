@@ -28,6 +28,7 @@ pub enum Misfit {
     NoRoom,
 }
 
+// The gate compares what is printed with the second program's.
 impl fmt::Display for Misfit {
     fn fmt<W: fmt::Write>(&self, f: &mut fmt::Formatter<W>) -> fmt::Result {
         f.write_str(match self {

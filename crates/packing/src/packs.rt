@@ -1,7 +1,8 @@
-ghost use Rattle.std.specs.Prelude.{◌≡◌, map, None, IfOk};
+ghost use Rattle.std.specs.Prelude.{◌≡◌, map, None, IfOk, IfErr};
 ghost use Rattle.script.specs.Statements.{written_call};
 ghost use Rattle.packing.specs.Packed.{cells_misfit, room_misfit, opened_by, drafted, no_rounds, numbered, behind, packed};
-ghost use Rattle.packing.specs.Promises.{AsksForScript};
+ghost use Rattle.packing.specs.Promises.{AsksForScript, IsPackable};
+ghost use Rattle.packing.specs.declared.misfits.PackError.TheVariants.{NoMemory};
 ghost use Rattle.packing.specs.InCode.{drawn, opened, Tells, Finds, Makes};
 
 use crate::drafts::{Draft, is_large};
@@ -66,9 +67,11 @@ fn pack_behind(
 /// The bytes of a script's run file; or its first line that does not fit; or want of memory.
 ///
 /// A script can be packed if its calls are one open, then rounds (a seat, any forges, a close), and then any decisions,
-/// which leave no trace. A figure of another kind than the script's is written as it is.
+/// which leave no trace (`Packable`). Where its values keep the rule of their kind, the file is in order, and asks for
+/// the same calls (`AsksFor`). A figure of the other kind is written as it is.
 pub fn pack(heap: Global, script: &Script) -> Result<Vec<u8>, PackError>
     ensures packed { Makes (λ v. v.items) (packed script.now) result }
+    ensures fits { IfErr result (λ why. IsPackable script.now → why ≡ NoMemory) }
     ensures asks { IfOk result (λ v. AsksForScript script.now v.items) }
 {
     check_cells(script.cells).map_err(|misfit| misfit.at(script.cells_line))?;
