@@ -114,6 +114,9 @@ module _ (house : House) where
   has_file : (line : ℕ) (o : Opened) (rest : List Numbered) (d : Draft) → drafted house.kind o.n line no_rounds rest ≡ Ok d → (bytes : List ℕ) × (with_open house line (Ok o) rest ≡ Ok bytes)
   has_file line o rest d e = (file_bytes house o d.sets d.forged, ap (file_of house o) e)
 
+  behind_open : (line : ℕ) (call : Call) (o : Opened) (rest : List Numbered) (bytes : List ℕ) → opened_by call ≡ Ok o → with_open house line (Ok o) rest ≡ Ok bytes → with_open house line (opened_by call) rest ≡ Ok bytes
+  behind_open line call o rest bytes e f = ap (λ r. with_open house line r rest) e ∙ f
+
   fits_lines : (end : ℕ) (lines : List Numbered) → Packable house (map (λ line. line.call) lines) → (bytes : List ℕ) × (of_lines house end lines ≡ Ok bytes)
   fits_lines end [] p = absurd (let e = p.calls_are in grind (arith, e))
   fits_lines end (first ∷ rest) p =
@@ -128,7 +131,7 @@ module _ (house : House) where
       let fits = rounds_fit house.kind o.n p.rounds [] [] (map Decision p.decisions) p.told (as_long wide o.n (0 + r) (0 + l) r l refl refl p.room) (λ seats after e f. decisions_fit house.kind o.n p.decisions Rounds seats after refl (as_long wide o.n (length seats) (length after) r l e f p.room)) in
       let draft = fit_drafted house.kind o.n rest first.number no_rounds (subst (λ cs. Fits house.kind o.n no_rounds cs) (sym behind) fits) in
       let file = has_file first.number o rest draft.0 draft.1 in
-      (file.0, ap (λ r. with_open house first.number r rest) opens ∙ file.1)
+      (file.0, behind_open first.number first.call o rest file.0 opens file.1)
 
 has_packed : (script : Script) → IsPackable script → (bytes : List ℕ) × (packed script ≡ Ok bytes)
 has_packed script p =

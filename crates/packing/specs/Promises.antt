@@ -1,4 +1,4 @@
--- What is promised of packing: a run file asks for the calls of its script, and which scripts have one. Assumes nothing.
+-- What is promised of packing: which scripts have a run file, and what it asks for. Assumes nothing.
 use Rattle.std.specs.Prelude.{◌≡◌, ◌≤◌, ◌+◌, ℕ, true, not, List, [], ◌∷◌, ◌++◌, map, length, None, Ok, ◌==◌}
 use Rattle.std.specs.List.{list_all, flat_map, AllByRecursion}
 use Rattle.values.specs.Cells.{Held}
