@@ -1,0 +1,5 @@
+pub mod Parting
+pub mod Turning
+pub mod Asking
+pub mod Law
+pub mod Fitting

@@ -1,0 +1,4 @@
+pub mod Bytes
+pub mod Packed
+pub mod Promises
+pub mod InCode
