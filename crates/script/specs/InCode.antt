@@ -1,5 +1,5 @@
 -- What is read in code, by what the definitions read. Assumes nothing.
-use Rattle.std.specs.Prelude.{◌≡◌, ℕ, ◌<◌, ⊤, map, length, List, [], Result, Ok, Err}
+use Rattle.std.specs.Prelude.{◌≡◌, true, Some, None, Option, ℕ, ◌<◌, ⊤, map, length, List, [], Result, Ok, Err}
 use denote.Ref.{Bor}
 use Rattle.script.specs.declared.flaws.Expected.{Expected}
 use Rattle.script.specs.declared.flaws.Flaw.{Flaw}
@@ -9,9 +9,11 @@ use Rattle.script.specs.declared.reading.Misread.TheVariants as misread
 use Rattle.script.specs.Words.{texts, lines_of}
 use Rattle.protocol.specs.Machine as machine
 use Rattle.script.specs.declared.scripts.Line.{Line}
+use Rattle.script.specs.declared.scripts.ValueKind.{ValueKind}
 use Rattle.script.specs.Statements.{written_call}
 use Rattle.script.specs.Lines.{Read}
-use Rattle.script.specs.Scripts.{Said, First, Stored, Meant, script_of}
+use Rattle.std.specs.List.{list_all}
+use Rattle.script.specs.Scripts.{keeps, rules_of, Said, First, Stored, Meant, script_of}
 use Rattle.script.specs.declared.scripts.Script.{Script}
 use Rattle.script.specs.declared.flaws.ScriptError.{ScriptError}
 use Rattle.script.specs.declared.flaws.ScriptError.TheVariants.{Faulty, NoMemory}
@@ -52,6 +54,15 @@ IsFirst first r = (r.0 ≡ first.house) × (map said_line r.1.now ≡ first.rest
 abbrev pub IsStored : Stored → Result (ℕ × ℕ) Flaw × Bor (List scripts.Said) → Type 0
 IsStored stored r = (r.0 ≡ stored.cells) × (map said_line r.1.now ≡ stored.rest)
 
+-- the values of all calls keep the rule of their kind
+abbrev pub KeepRule : ValueKind → List Line → Type 0
+KeepRule kind lines = list_all (keeps (rules_of kind)) (map (λ line. written_call line.statement) lines) ≡ true
+
+-- the same where the kind is known
+abbrev pub KeepKnownRule : Option ValueKind → List Line → Type 0
+KeepKnownRule None lines = ⊤
+KeepKnownRule (Some kind) lines = KeepRule kind lines
+
 -- a script that was read says what a text of so many lines means, and nothing is wrong with it
 pub record IsScript (meant : Meant) (end : ℕ) (script : Script) : Type 0 where
   pub sound : meant.flaws ≡ []
@@ -59,6 +70,8 @@ pub record IsScript (meant : Meant) (end : ℕ) (script : Script) : Type 0 where
   pub cells : meant.cells ≡ Ok (script.cells, script.cells_line)
   pub calls : map call_of_line script.lines.items ≡ meant.calls
   pub ended : script.end ≡ end
+  -- so the values of all its calls keep the rule of their kind
+  pub kept : KeepRule script.house.kind script.lines.items
 
 -- a text that is no script: its flaws are told, and there are some
 pub record IsFaulty (meant : Meant) (flaws : List Flaw) : Type 0 where

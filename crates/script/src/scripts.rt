@@ -2,7 +2,7 @@ ghost use Rattle.std.specs.Prelude.{◌≡◌, ◌++◌, if◌then◌else◌, ma
 ghost use Rattle.script.specs.Words.{texts, lines_of};
 ghost use Rattle.script.specs.Scripts.{rules_of, keeps, kept, judged, unless_blank, said_from, calls_in, call_flaws, house_at, first_in, says_cells, cells_at, stored_in, flaw_of, kind_said};
 ghost use Rattle.script.specs.declared.flaws.Wrong.TheVariants as wrong;
-ghost use Rattle.script.specs.InCode.{said_line, call_of_line, result_map, IsFirst, IsStored, IsReading};
+ghost use Rattle.script.specs.InCode.{said_line, call_of_line, result_map, IsFirst, IsStored, IsReading, KeepKnownRule};
 ghost use Rattle.script.specs.Statements.{written_call};
 ghost use Rattle.script.specs.Figures.{numbers_of};
 
@@ -143,6 +143,7 @@ fn read_lines(
 ) -> Result<(Vec<Line>, Vec<Flaw>), AllocError>
     ensures calls { IfOk result (λ r. map call_of_line r.0.items ≡ calls_in kind (map said_line said.now)) }
     ensures flaws { IfOk result (λ r. r.1.items ≡ call_flaws kind (map said_line said.now)) }
+    ensures kept { IfOk result (λ r. KeepKnownRule kind r.0.items) }
 {
     let mut lines = Vec::new(heap);
     let mut flaws = Vec::new(heap);
