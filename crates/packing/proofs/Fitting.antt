@@ -17,15 +17,15 @@ use Rattle.packing.specs.Bytes.{Forged, Opened, file_bytes, file_end}
 use Rattle.packing.specs.Packed.{Draft, Numbered, numbered, no_rounds, is_large, turn_misfit, place_misfit, room_misfit, misfit_of, end_misfit, added, drafted, unless, openable, opened_by, file_of, with_open, of_lines, cells_misfit, packed}
 use Rattle.packing.specs.declared.misfits.PackError.{PackError}
 use Rattle.packing.specs.declared.misfits.PackError.TheVariants as because
-use Rattle.packing.specs.InCode.{Makes}
+use Rattle.packing.specs.InCode.{IsMade}
 use Rattle.packing.proofs.Law.{no_misfit, same_calls}
-use Rattle.packing.specs.Promises.{Forging, Round, forge_call, round_calls, IsTold, forging_count, Packable, IsPackable}
+use Rattle.packing.specs.Promises.{Forging, Round, forge_call, round_calls, FitsBytes, forging_count, Packable, IsPackable}
 
 -- a file of fewer rounds and lines is shorter
 no_longer : (w n a b c d : ℕ) → a ≤ c → b ≤ d → file_end w n a b ≤ file_end w n c d
 no_longer w n a b c d l m = grind (arith, l, m)
 
-told_place : (f : Forging) → IsTold f → place_misfit (forge_call f) ≡ None
+told_place : (f : Forging) → FitsBytes f → place_misfit (forge_call f) ≡ None
 told_place f h = by f.sender f.receiver f.column h.0 h.1 h.2
   where
     by : (s r c : ℕ) → s ≤ 255 → r ≤ 255 → c ≤ 255 → (if is_large s || is_large r || is_large c then Some LargeNumber else None) ≡ None
@@ -60,7 +60,7 @@ module _ (kind : ValueKind) (n : ℕ) where
   decisions_fit [] stage sets forged e h = e
   decisions_fit (i ∷ is) stage sets forged e h = (ap₂ (λ a b. option_or a b) (can_decide stage i e) (fits_room sets forged Decisions h), decisions_fit is Decisions sets forged refl h)
 
-  forges_fit : (fs : List Forging) (r : ℕ) (sets : List ℕ) (forged : List Forged) (calls : List Call) → AllByRecursion IsTold fs → file_end w n (length sets) (length forged + length fs) ≤ 65535
+  forges_fit : (fs : List Forging) (r : ℕ) (sets : List ℕ) (forged : List Forged) (calls : List Call) → AllByRecursion FitsBytes fs → file_end w n (length sets) (length forged + length fs) ≤ 65535
       → ((after : List Forged) → length after ≡ length forged + length fs → Fits (record { stage = Seated r; sets = sets; forged = after }) calls)
       → Fits (record { stage = Seated r; sets = sets; forged = forged }) (map forge_call fs ++ calls)
   unfolding Fits
@@ -74,7 +74,7 @@ module _ (kind : ValueKind) (n : ℕ) where
         forges_fit fs r sets (forged ++ x ∷ []) calls told.1 (omega (arith, more, h)) (λ after e. rest after (omega (arith, e, count))),
       )
 
-  rounds_fit : (rounds : List Round) (sets : List ℕ) (forged : List Forged) (calls : List Call) → AllByRecursion (λ r. AllByRecursion IsTold r.forgings) rounds → file_end w n (length sets + length rounds) (length forged + forging_count rounds) ≤ 65535
+  rounds_fit : (rounds : List Round) (sets : List ℕ) (forged : List Forged) (calls : List Call) → AllByRecursion (λ r. AllByRecursion FitsBytes r.forgings) rounds → file_end w n (length sets + length rounds) (length forged + forging_count rounds) ≤ 65535
       → ((seats : List ℕ) (after : List Forged) → length seats ≡ length sets + length rounds → length after ≡ length forged + forging_count rounds → Fits (record { stage = Rounds; sets = seats; forged = after }) calls)
       → Fits (record { stage = Rounds; sets = sets; forged = forged }) (flat_map round_calls rounds ++ calls)
   unfolding Fits
@@ -138,7 +138,7 @@ has_packed script p =
     let file = fits_lines script.house script.end (map numbered script.lines.items) (subst (λ calls. Packable script.house calls) (sym (same_calls script.lines.items)) p.1) in
     (file.0, ap (λ m. unless script.cells_line m (of_lines script.house script.end (map numbered script.lines.items))) (enough script.cells p.0) ∙ file.1)
 
-pub made_fits : {T : Type 0} (means : T → List ℕ) (script : Script) (r : Result T PackError) → Makes means (packed script) r → IfErr r (λ why. IsPackable script → why ≡ because.NoMemory)
+pub made_fits : {T : Type 0} (means : T → List ℕ) (script : Script) (r : Result T PackError) → IsMade means (packed script) r → IfErr r (λ why. IsPackable script → why ≡ because.NoMemory)
 made_fits means script (Ok x) m = tt
 made_fits means script (Err (because.Unfit unfit)) m = λ p. absurd (let e = (has_packed script p).1 in grind (arith, m, e))
 made_fits means script (Err because.NoMemory) m = λ p. refl

@@ -20,7 +20,7 @@ use Rattle.packing.specs.declared.misfits.Unfit.{Unfit}
 use Rattle.packing.specs.Bytes.{Opened, file_bytes, file_end}
 use Rattle.packing.specs.Packed.{Draft, Numbered, numbered, no_rounds, is_large, openable, opened_by, drafted, file_of, with_open, of_lines, room_misfit, cells_misfit, packed}
 use Rattle.packing.specs.Promises.{AsksFor, AsksForScript}
-use Rattle.packing.specs.InCode.{Makes}
+use Rattle.packing.specs.InCode.{IsMade}
 use Rattle.packing.proofs.Parting.{file_kind}
 use Rattle.packing.proofs.Turning.{nothing_made, Ends, drafted_ends, unless_ok}
 use Rattle.packing.proofs.Asking.{IsRight, the_header, header_again, not_refused, asked_again}
@@ -115,6 +115,6 @@ asks_for script bytes e keep =
     let same = same_calls script.lines.items in
     subst (λ calls. AsksFor script.house calls bytes) same (asks_lines script.house script.end (map numbered script.lines.items) bytes (subst (λ calls. list_all (keeps (rules_of script.house.kind)) calls ≡ true) (sym same) keep) parts.1)
 
-pub made_asks : {T : Type 0} (means : T → List ℕ) (script : Script) (r : Result T PackError) → Makes means (packed script) r → IfOk r (λ x. AsksForScript script (means x))
+pub made_asks : {T : Type 0} (means : T → List ℕ) (script : Script) (r : Result T PackError) → IsMade means (packed script) r → IfOk r (λ x. AsksForScript script (means x))
 made_asks means script (Ok x) m = asks_for script (means x) m
 made_asks means script (Err why) m = tt

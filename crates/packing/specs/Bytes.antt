@@ -23,6 +23,10 @@ pub record Opened : Type 0 where
   pub initial : ℕ
   pub proposals : List (List ℕ)
 
+-- the largest number of one byte
+abbrev pub most_in_byte : ℕ
+most_in_byte = 255
+
 -- a number in two bytes, low byte first
 abbrev pub two_bytes : ℕ → List ℕ
 two_bytes x = x % 256 ∷ x / 256 ∷ []

@@ -24,9 +24,9 @@ abbrev pub opened : Opening → Opened
 opened o = record { n = o.n; t = o.t; initial = o.initial.0; proposals = map numbers_of o.proposals.now }
 
 -- a check tells the misfit that the definition finds, if it finds one
-abbrev pub Tells : Option Misfit → Result ⊤ Misfit → Type 0
-Tells found (Ok x) = found ≡ None
-Tells found (Err misfit) = found ≡ Some misfit
+abbrev pub IsFound : Option Misfit → Result ⊤ Misfit → Type 0
+IsFound found (Ok x) = found ≡ None
+IsFound found (Err misfit) = found ≡ Some misfit
 
 -- what is found is what the definition finds, by its meaning
 abbrev pub Finds : {T X : Type 0} → (T → X) → Result X Misfit → Result T Misfit → Type 0
@@ -34,7 +34,7 @@ Finds means found (Ok x) = found ≡ Ok (means x)
 Finds means found (Err misfit) = found ≡ Err misfit
 
 -- what is made is what the definition has, by its meaning, unless memory is wanting
-abbrev pub Makes : {T X : Type 0} → (T → X) → Result X Unfit → Result T PackError → Type 0
-Makes means made (Ok x) = made ≡ Ok (means x)
-Makes means made (Err (because.Unfit unfit)) = made ≡ Err unfit
-Makes means made (Err because.NoMemory) = ⊤
+abbrev pub IsMade : {T X : Type 0} → (T → X) → Result X Unfit → Result T PackError → Type 0
+IsMade means made (Ok x) = made ≡ Ok (means x)
+IsMade means made (Err (because.Unfit unfit)) = made ≡ Err unfit
+IsMade means made (Err because.NoMemory) = ⊤

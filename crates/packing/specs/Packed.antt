@@ -15,7 +15,7 @@ use Rattle.packing.specs.declared.misfits.Misfit.TheVariants.{FewCells, NoOpen, 
 use Rattle.packing.specs.declared.misfits.Unfit.{Unfit}
 use Rattle.packing.specs.declared.drafts.Stage.{Stage}
 use Rattle.packing.specs.declared.drafts.Stage.TheVariants.{Rounds, Seated, Decisions}
-use Rattle.packing.specs.Bytes.{Forged, Opened, file_bytes, file_end}
+use Rattle.packing.specs.Bytes.{Forged, Opened, most_in_byte, file_bytes, file_end}
 
 -- what the calls behind the open have come to: where they stand, the set of each round, and what the rounds forge
 pub record Draft : Type 0 where
@@ -28,7 +28,7 @@ no_rounds = record { stage = Rounds; sets = []; forged = [] }
 
 -- one byte tells no such number
 abbrev pub is_large : ℕ → Bool
-is_large number = nat_lt 255 number
+is_large number = nat_lt most_in_byte number
 
 -- why a call cannot be a forgery line, if it forges and cannot
 abbrev pub place_misfit : Call → Option Misfit

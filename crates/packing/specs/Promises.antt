@@ -13,11 +13,11 @@ use Rattle.script.specs.Scripts.{rules_of, keeps}
 use Rattle.script.specs.Statements.{written_call}
 use Rattle.script.specs.declared.scripts.House.{House}
 use Rattle.script.specs.declared.scripts.Script.{Script}
-use Rattle.packing.specs.Bytes.{Opened, file_end}
+use Rattle.packing.specs.Bytes.{Opened, most_in_byte, file_end}
 
 -- the calls of a script, with the numbers as they are written
-abbrev pub calls_in : Script → List Call
-calls_in script = map (λ line. written_call line.statement) script.lines.items
+abbrev pub script_calls : Script → List Call
+script_calls script = map (λ line. written_call line.statement) script.lines.items
 
 -- the header names the kind and the model of a script
 pub record Names (h : Header) (house : House) : Type 0 where
@@ -37,7 +37,7 @@ pub record AsksFor (house : House) (calls : List Call) (bytes : List ℕ) : Type
 
 -- the same of a script whose values all keep the rule of their kind
 abbrev pub AsksForScript : Script → List ℕ → Type 0
-AsksForScript script bytes = list_all (keeps (rules_of script.house.kind)) (calls_in script) ≡ true → AsksFor script.house (calls_in script) bytes
+AsksForScript script bytes = list_all (keeps (rules_of script.house.kind)) (script_calls script) ≡ true → AsksFor script.house (script_calls script) bytes
 
 -- what is told in a round that a script has
 pub record Forging : Type 0 where
@@ -58,8 +58,8 @@ abbrev pub round_calls : Round → List Call
 round_calls r = Seat r.set ∷ (map forge_call r.forgings ++ (Close ∷ []))
 
 -- each number that has one byte in a run file fits there
-abbrev pub IsTold : Forging → Type 0
-IsTold f = (f.sender ≤ 255) × (f.receiver ≤ 255) × (f.column ≤ 255)
+abbrev pub FitsBytes : Forging → Type 0
+FitsBytes f = (f.sender ≤ most_in_byte) × (f.receiver ≤ most_in_byte) × (f.column ≤ most_in_byte)
 
 abbrev pub forging_count : List Round → ℕ
 forging_count [] = 0
@@ -73,10 +73,10 @@ pub record Packable (house : House) (calls : List Call) : Type 0 where
   pub decisions : List ℕ
   pub calls_are : calls ≡ Open block.n block.t block.proposals block.initial ∷ (flat_map round_calls rounds ++ map Decision decisions)
   pub count : length block.proposals ≡ block.n
-  pub small : (block.n ≤ 255) × (block.t ≤ 255)
-  pub told : AllByRecursion (λ r. AllByRecursion IsTold r.forgings) rounds
+  pub small : (block.n ≤ most_in_byte) × (block.t ≤ most_in_byte)
+  pub told : AllByRecursion (λ r. AllByRecursion FitsBytes r.forgings) rounds
   pub room : file_end (rules_of house.kind).width block.n (length rounds) (forging_count rounds) ≤ MOST_BYTES
 
 -- a script with such calls, over enough cells
 abbrev pub IsPackable : Script → Type 0
-IsPackable script = (MOST_CELLS ≤ script.cells) × Packable script.house (calls_in script)
+IsPackable script = (MOST_CELLS ≤ script.cells) × Packable script.house (script_calls script)

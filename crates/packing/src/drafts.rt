@@ -3,8 +3,9 @@ ghost use Rattle.std.specs.Option.{option_map};
 ghost use Rattle.protocol.specs.Machine.{Seat, Forge};
 ghost use Rattle.script.specs.Figures.{numbers_of};
 ghost use Rattle.script.specs.Statements.{written_call};
+ghost use Rattle.packing.specs.Bytes.{most_in_byte};
 ghost use Rattle.packing.specs.Packed.{is_large, place_misfit, turn_misfit, room_misfit, end_misfit, added, no_rounds, drafted, round_of, numbered, unless, misfit_of};
-ghost use Rattle.packing.specs.InCode.{drawn, forged_by, Tells, Makes};
+ghost use Rattle.packing.specs.InCode.{drawn, forged_by, IsFound, IsMade};
 
 use crate::layouts::Layout;
 use crate::misfits::{Misfit, PackError};
@@ -48,7 +49,7 @@ pub(crate) struct Draft {
     pub stage: Stage,
     /// The set of each round.
     pub sets: Vec<Set>,
-    /// What the rounds forge, in its order.
+    /// What the rounds forge, in their order.
     pub forgeries: Vec<Forgery>,
 }
 
@@ -61,7 +62,7 @@ pub(crate) fn is_large(number: usize) -> bool
 
 // Refuses places that a forgery line cannot name.
 fn check_place(call: &Statement<Figure>) -> Result<(), Misfit>
-    ensures { Tells (place_misfit (written_call call.now)) result }
+    ensures { IsFound (place_misfit (written_call call.now)) result }
 {
     match call {
         Statement::Forge(place, _)
@@ -74,7 +75,7 @@ fn check_place(call: &Statement<Figure>) -> Result<(), Misfit>
 
 // Refuses a call that cannot come now.
 fn check_turn(stage: Stage, call: &Statement<Figure>) -> Result<(), Misfit>
-    ensures { Tells (turn_misfit stage (written_call call.now)) result }
+    ensures { IsFound (turn_misfit stage (written_call call.now)) result }
 {
     match (call, stage) {
         (Statement::Open { .. }, _) => Err(Misfit::SecondOpen),
@@ -90,7 +91,7 @@ fn check_turn(stage: Stage, call: &Statement<Figure>) -> Result<(), Misfit>
 
 // Refuses an end while a round is seated.
 fn check_end(stage: Stage) -> Result<(), Misfit>
-    ensures { Tells (end_misfit stage) result }
+    ensures { IsFound (end_misfit stage) result }
 {
     match stage {
         Stage::Seated(_) => Err(Misfit::RoundNotClosed),
@@ -123,7 +124,7 @@ impl Draft {
     fn check_room(&self, kind: ValueKind, n: u8) -> Result<(), Misfit>
         requires sets { length (drawn self.now).sets ≤ MOST_BYTES }
         requires forged { length (drawn self.now).forged ≤ MOST_BYTES }
-        ensures { Tells (room_misfit kind n (drawn self.now)) result }
+        ensures { IsFound (room_misfit kind n (drawn self.now)) result }
     {
         let layout = Layout::of(kind, n, self.sets.len(), self.forgeries.len());
         if layout.end > MOST_BYTES {
@@ -144,7 +145,7 @@ impl Draft {
     }
 
     fn forge(&mut self, place: Place, cell: Cell<Figure>) -> Result<(), AllocError>
-        requires { (place.sender ≤ 255) × (place.receiver ≤ 255) × (place.column ≤ 255) }
+        requires { (place.sender ≤ most_in_byte) × (place.receiver ≤ most_in_byte) × (place.column ≤ most_in_byte) }
         ensures { OnOk result (drawn self.new ≡ added (drawn self.old) (Forge place.sender place.receiver place.column (option_map numbers_of cell))) }
     {
         self.forgeries.push(Forgery {
@@ -178,7 +179,7 @@ impl Draft {
     fn add_line(&mut self, kind: ValueKind, n: u8, line: &Line) -> Result<(), PackError>
         requires { room_misfit kind n (drawn self.now) ≡ None }
         ensures added { OnOk result (drawn self.new ≡ added (drawn self.old) (written_call line.now.statement)) }
-        ensures fits { Makes (λ x. x) (unless line.now.number (misfit_of kind n (drawn self.old) (written_call line.now.statement)) (Ok tt)) result }
+        ensures fits { IsMade (λ x. x) (unless line.now.number (misfit_of kind n (drawn self.old) (written_call line.now.statement)) (Ok tt)) result }
         ensures room { OnOk result (room_misfit kind n (drawn self.new) ≡ None) }
     {
         let call = &line.statement;
@@ -198,7 +199,7 @@ impl Draft {
         open_line: usize,
         lines: &[Line],
     ) -> Result<Draft, PackError>
-        ensures made { Makes drawn (drafted kind n open_line no_rounds (map numbered lines.now)) result }
+        ensures made { IsMade drawn (drafted kind n open_line no_rounds (map numbered lines.now)) result }
         ensures room { IfOk result (λ draft. room_misfit kind n (drawn draft) ≡ None) }
     {
         let mut draft = Draft::new(heap);

@@ -9,9 +9,10 @@ use values::{Kind, Setpoint, Sheet};
 /// The byte at which the proposals start.
 pub(crate) const PROPOSALS_START: u16 = 16;
 
-// How many bytes a set has, and a forgery line before its value.
+// How many bytes a set has.
 const SET_WIDTH: usize = 2;
 
+// How many bytes a forgery line has before its value.
 const LINE_HEAD: usize = 6;
 
 /// Where the parts of a run file start, and where it ends.

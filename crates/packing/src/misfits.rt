@@ -1,6 +1,7 @@
 ghost use Rattle.std.specs.Prelude.{◌≡◌};
 ghost use Rattle.packing.specs.declared.misfits.PackError.TheVariants as because;
 
+use run::MOST_CELLS;
 use std::alloc::AllocError;
 use std::error::Error;
 use std::fmt;
@@ -20,7 +21,7 @@ pub enum Misfit {
     SecondOpen,
     /// A forge or a close comes where no round is seated.
     NoRound,
-    /// A round is seated, and something other than a forge or its close comes, or nothing.
+    /// A round is seated, and a seat or a decision comes, or the script ends.
     RoundNotClosed,
     /// A seat comes after a decision.
     AfterDecision,
@@ -32,10 +33,13 @@ pub enum Misfit {
 impl fmt::Display for Misfit {
     fn fmt<W: fmt::Write>(&self, f: &mut fmt::Formatter<W>) -> fmt::Result {
         f.write_str(match self {
-            Misfit::FewCells => "a run file is played over 4688 cells",
+            Misfit::FewCells => return write!(f, "a run file is played over {MOST_CELLS} cells"),
+            Misfit::LargeNumber => {
+                let most = u8::MAX;
+                return write!(f, "a run file has no number above {most} here");
+            }
             Misfit::NoOpen => "a run file begins with an open",
             Misfit::ProposalCount => "a run file has one proposal for each controller",
-            Misfit::LargeNumber => "a run file has no number above 255 here",
             Misfit::SecondOpen => "a run file has no second open",
             Misfit::NoRound => "a round must be seated here",
             Misfit::RoundNotClosed => "the round must be closed first",

@@ -3,7 +3,7 @@ ghost use Rattle.script.specs.Statements.{written_call};
 ghost use Rattle.packing.specs.Packed.{cells_misfit, room_misfit, opened_by, drafted, no_rounds, numbered, behind, packed};
 ghost use Rattle.packing.specs.Promises.{AsksForScript, IsPackable};
 ghost use Rattle.packing.specs.declared.misfits.PackError.TheVariants.{NoMemory};
-ghost use Rattle.packing.specs.InCode.{drawn, opened, Tells, Finds, Makes};
+ghost use Rattle.packing.specs.InCode.{drawn, opened, IsFound, Finds, IsMade};
 
 use crate::drafts::{Draft, is_large};
 use crate::files::{Opening, file};
@@ -14,7 +14,7 @@ use std::alloc::Global;
 
 // Refuses a store of fewer cells than a run file is played over.
 fn check_cells(cells: usize) -> Result<(), Misfit>
-    ensures { Tells (cells_misfit cells) result }
+    ensures { IsFound (cells_misfit cells) result }
 {
     if cells < MOST_CELLS {
         Err(Misfit::FewCells)
@@ -57,7 +57,7 @@ fn pack_behind(
     first: &Line,
     rest: &[Line],
 ) -> Result<Vec<u8>, PackError>
-    ensures { Makes (λ v. v.items) (behind house (numbered first.now) (map numbered rest.now)) result }
+    ensures { IsMade (λ v. v.items) (behind house (numbered first.now) (map numbered rest.now)) result }
 {
     let opening = open(&first.statement).map_err(|misfit| misfit.at(first.number))?;
     let draft = Draft::of(heap, house.kind, opening.n, first.number, rest)?;
@@ -70,7 +70,7 @@ fn pack_behind(
 /// which leave no trace (`Packable`). Where its values keep the rule of their kind, the file is in order, and asks for
 /// the same calls (`AsksFor`). A figure of the other kind is written as it is.
 pub fn pack(heap: Global, script: &Script) -> Result<Vec<u8>, PackError>
-    ensures packed { Makes (λ v. v.items) (packed script.now) result }
+    ensures packed { IsMade (λ v. v.items) (packed script.now) result }
     ensures fits { IfErr result (λ why. IsPackable script.now → why ≡ NoMemory) }
     ensures asks { IfOk result (λ v. AsksForScript script.now v.items) }
 {

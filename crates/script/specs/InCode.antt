@@ -16,7 +16,7 @@ use Rattle.std.specs.List.{list_all}
 use Rattle.script.specs.Scripts.{keeps, rules_of, Said, First, Stored, Meant, script_of}
 use Rattle.script.specs.declared.scripts.Script.{Script}
 use Rattle.script.specs.declared.flaws.ScriptError.{ScriptError}
-use Rattle.script.specs.declared.flaws.ScriptError.TheVariants.{Faulty, NoMemory}
+use Rattle.script.specs.declared.flaws.ScriptError.TheVariants.{Flawed, NoMemory}
 use Rattle.script.specs.declared.scripts.Said as scripts
 
 -- the result is what the definition reads, by what it means
@@ -74,12 +74,12 @@ pub record IsScript (meant : Meant) (end : ℕ) (script : Script) : Type 0 where
   pub kept : KeepRule script.house.kind script.lines.items
 
 -- a text that is no script: its flaws are told, and there are some
-pub record IsFaulty (meant : Meant) (flaws : List Flaw) : Type 0 where
+pub record IsFlawed (meant : Meant) (flaws : List Flaw) : Type 0 where
   pub some : 0 < length flaws
   pub all : flaws ≡ meant.flaws
 
 -- what comes of reading a text; want of memory may come at any
 abbrev pub IsReading : List ℕ → Result Script ScriptError → Type 0
 IsReading text (Ok script) = IsScript (script_of text) (length (lines_of text)) script
-IsReading text (Err (Faulty flaws)) = IsFaulty (script_of text) flaws.all.items
+IsReading text (Err (Flawed flaws)) = IsFlawed (script_of text) flaws.all.items
 IsReading text (Err NoMemory) = ⊤

@@ -117,6 +117,6 @@ house_in words =
     stamps_in model.1 and_then λ layers.
     Ok (record { kind = kind.0; base = model.0; stamps = layers })
 
--- the second line, if it says the cells of the store
+-- how many cells the store has, by the words behind `cells`
 abbrev pub cells_in : List (List ℕ) → Result ℕ Expected
 cells_in words = number_first words and_then λ cells. ended cells.0 cells.1

@@ -5,6 +5,7 @@ use Rattle.std.specs.List.{slice_split, list_all, fold, between}
 use Rattle.std.specs.Char.{is_ascii_digit}
 use Rattle.std.specs.Str.Parse.{digits_value}
 use Rattle.std.specs.Int.RustNames.{bit_or}
+use Rattle.script.specs.Words.{comma, slash}
 use Rattle.models.specs.declared.sets.TheConstants.{MOST_CONTROLLERS}
 
 -- one digit or more, and nothing else
@@ -25,10 +26,10 @@ numbers_below limit [] = Some []
 numbers_below limit (word ∷ words) = option_and_then (λ x. option_map (λ xs. x ∷ xs) (numbers_below limit words)) (number_below limit word)
 
 abbrev pub is_slash : ℕ → Bool
-is_slash b = b == 47
+is_slash b = b == slash
 
 abbrev pub is_comma : ℕ → Bool
-is_comma b = b == 44
+is_comma b = b == comma
 
 -- a figure is one number or four, with a slash between two
 abbrev pub is_figure_size : List (List ℕ) → Bool

@@ -1,4 +1,4 @@
--- The calls that statements stand for. Assumes nothing.
+-- The calls that statements stand for, and the transcript of statements beside their answers. Assumes nothing.
 use Rattle.std.specs.Prelude.{ℕ, List, map, Result, Ok, Err}
 use Rattle.std.specs.Option.{option_map}
 use Rattle.protocol.specs.Machine as machine

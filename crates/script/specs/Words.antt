@@ -3,6 +3,16 @@ use Rattle.std.specs.Prelude.{ℕ, Bool, not, ◌||◌, List, map, length, filte
 use Rattle.std.specs.List.{slice_split, before_first}
 use denote.Ref.{Bor}
 
+-- the bytes that separate: words, the members of a set, and the numbers of a figure
+abbrev pub space : ℕ
+space = 32
+
+abbrev pub comma : ℕ
+comma = 44
+
+abbrev pub slash : ℕ
+slash = 47
+
 abbrev pub is_line_feed : ℕ → Bool
 is_line_feed b = b == 10
 
@@ -12,7 +22,7 @@ is_hash b = b == 35
 
 -- a blank is a space, a tab or a carriage return
 abbrev pub is_blank : ℕ → Bool
-is_blank b = b == 32 || b == 9 || b == 13
+is_blank b = b == space || b == 9 || b == 13
 
 abbrev pub is_some_text : List ℕ → Bool
 is_some_text text = not (length text == 0)

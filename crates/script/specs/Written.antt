@@ -5,6 +5,7 @@ use Rattle.models.specs.Sets.{has}
 use Rattle.models.specs.declared.sets.TheConstants.{MOST_CONTROLLERS}
 use Rattle.values.specs.Cells.{Held}
 use Rattle.protocol.specs.Machine as machine
+use Rattle.script.specs.Words.{space, comma, slash}
 use Rattle.models.specs.declared.standards.Standard.{Standard}
 use Rattle.models.specs.declared.standards.Standard.TheVariants.{Aware, Unaware, Buffered, Carried, Fixed}
 use Rattle.script.specs.declared.scripts.House.{House}
@@ -13,7 +14,7 @@ use Rattle.script.specs.declared.scripts.ValueKind.TheVariants.{Setpoint, Sheet}
 
 -- a figure: its numbers, with a slash between two
 abbrev pub written_figure : List ℕ → List ℕ
-written_figure numbers = join_with_byte 47 (map decimal numbers)
+written_figure numbers = join_with_byte slash (map decimal numbers)
 
 -- the members of a set below n, in their order
 unfoldable pub members_below : ℕ → (set : ℕ) → List ℕ
@@ -22,7 +23,7 @@ members_below (suc n) set = members_below n set ++ (if has set n then n ∷ [] e
 
 -- a set: its members between braces, with a comma between two
 abbrev pub written_set : ℕ → List ℕ
-written_set set = codes "{" ++ (join_with_byte 44 (map decimal (members_below MOST_CONTROLLERS set)) ++ codes "}")
+written_set set = codes "{" ++ (join_with_byte comma (map decimal (members_below MOST_CONTROLLERS set)) ++ codes "}")
 
 abbrev pub written_cell : Held → List ℕ
 written_cell None = codes "empty"
@@ -39,11 +40,11 @@ words_for (machine.Decision controller) = codes "decision" ∷ decimal controlle
 -- words, each behind a blank
 abbrev pub behind_blanks : List (List ℕ) → List ℕ
 behind_blanks [] = []
-behind_blanks (word ∷ words) = (32 ∷ word) ++ behind_blanks words
+behind_blanks (word ∷ words) = (space ∷ word) ++ behind_blanks words
 
 -- a call: its words, with a blank between two
 abbrev pub written : machine.Call → List ℕ
-written call = join_with_byte 32 (words_for call)
+written call = join_with_byte space (words_for call)
 
 -- a number as a call takes it, a set, and a figure: one number of two bytes, or four
 abbrev pub IsNumber : ℕ → Type 0
@@ -83,4 +84,4 @@ abbrev pub words_of_house : House → List (List ℕ)
 words_of_house h = kind_word h.kind ∷ model_word h.base ∷ replicate h.stamps (codes "stamped")
 
 abbrev pub written_house : House → List ℕ
-written_house h = join_with_byte 32 (words_of_house h)
+written_house h = join_with_byte space (words_of_house h)

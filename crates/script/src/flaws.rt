@@ -1,5 +1,6 @@
 ghost use Rattle.std.specs.Prelude.{◌≡◌};
 
+use models::MOST_CONTROLLERS;
 use std::alloc::AllocError;
 use std::error::Error;
 use std::fmt;
@@ -30,21 +31,29 @@ pub enum Expected {
 
 impl fmt::Display for Expected {
     fn fmt<W: fmt::Write>(&self, f: &mut fmt::Formatter<W>) -> fmt::Result {
-        f.write_str(match self {
-            Expected::Kind => "a kind of values: setpoint or sheet",
-            Expected::Model => "a model: aware, unaware, buffered, carried or fixed",
-            Expected::Stamped => "nothing more, or the word stamped",
-            Expected::Call => "a call: open, seat, forge, close or decision",
-            Expected::Number => "a number from 0 to 18446744073709551615",
-            Expected::Set => {
-                "a set of controllers from 0 to 15, as {0,3} or {}, with no blank in it"
-            }
-            Expected::Value => "a value, as 500 or 400/300/200/100, each number up to 65535",
-            Expected::Cell => {
-                "a value, as 500 or 400/300/200/100, each number up to 65535, or the word empty"
-            }
-            Expected::End => "nothing more",
-        })
+        let most = usize::MAX;
+        let last = MOST_CONTROLLERS - 1;
+        let largest = u16::MAX;
+        match self {
+            Expected::Kind => f.write_str("a kind of values: setpoint or sheet"),
+            Expected::Model => f.write_str("a model: aware, unaware, buffered, carried or fixed"),
+            Expected::Stamped => f.write_str("nothing more, or the word stamped"),
+            Expected::Call => f.write_str("a call: open, seat, forge, close or decision"),
+            Expected::Number => write!(f, "a number from 0 to {most}"),
+            Expected::Set => write!(
+                f,
+                "a set of controllers from 0 to {last}, as {{0,3}} or {{}}, with no blank in it"
+            ),
+            Expected::Value => write!(
+                f,
+                "a value, as 500 or 400/300/200/100, each number up to {largest}"
+            ),
+            Expected::Cell => write!(
+                f,
+                "a value, as 500 or 400/300/200/100, each number up to {largest}, or the word empty"
+            ),
+            Expected::End => f.write_str("nothing more"),
+        }
     }
 }
 
@@ -57,7 +66,7 @@ pub enum Wrong {
     Refused(Refusal),
 }
 
-/// A faulty line. Displays as one line for people, as docs/BENCH.md has it.
+/// What is wrong with a line, and with which. Displays as one line for people, as docs/BENCH.md has it.
 #[derive(Clone, Copy, PartialEq, Eq, Debug)]
 pub struct Flaw {
     /// The number of the line, from 1 on.
@@ -82,11 +91,11 @@ impl fmt::Display for Flaw {
 
 impl Error for Flaw {}
 
-/// How many faulty lines are told at most.
+/// How many flaws are told at most.
 const MOST_TOLD: usize = 20;
 
-/// The flaws of a script's lines, in their order. Displays as a line for each, twenty at most, and one for the rest.
-#[derive(Drop)]
+/// The flaws of a script's lines, in the order of the lines. Displays as a line for each, `MOST_TOLD` at most, and one for the rest.
+#[derive(Drop, Debug)]
 pub struct Flaws {
     /// All of them.
     pub all: Vec<Flaw>,
@@ -110,10 +119,10 @@ impl fmt::Display for Flaws {
 }
 
 /// Why there is no script. Displays as lines for people.
-#[derive(Drop)]
+#[derive(Drop, Debug)]
 pub enum ScriptError {
-    /// Some of its lines are faulty.
-    Faulty(Flaws),
+    /// Some of its lines have a flaw.
+    Flawed(Flaws),
     /// The heap has not enough memory for it.
     NoMemory,
 }
@@ -121,11 +130,13 @@ pub enum ScriptError {
 impl fmt::Display for ScriptError {
     fn fmt<W: fmt::Write>(&self, f: &mut fmt::Formatter<W>) -> fmt::Result {
         match self {
-            ScriptError::Faulty(flaws) => write!(f, "{flaws}"),
+            ScriptError::Flawed(flaws) => write!(f, "{flaws}"),
             ScriptError::NoMemory => f.write_str("there is not memory enough"),
         }
     }
 }
+
+impl Error for ScriptError {}
 
 impl From<AllocError> for ScriptError {
     ghost use Rattle.script.specs.declared.flaws.ScriptError.TheVariants.{NoMemory};

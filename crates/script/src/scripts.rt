@@ -62,9 +62,10 @@ pub struct Script {
 
 // A line that has words, with its number.
 #[derive(Drop)]
-pub(crate) struct Said<'t> {
-    pub number: usize,
-    pub words: Vec<&'t [u8]>,
+struct Said<'t> {
+    number: usize,
+    // There is one at least.
+    words: Vec<&'t [u8]>,
 }
 
 // Adds a line, if it has words.
@@ -135,7 +136,7 @@ fn judge(
     }
 }
 
-// The calls of lines, and the flaws of those that are faulty.
+// The calls of lines, and the flaws of those that have one.
 fn read_lines(
     heap: Global,
     kind: Option<ValueKind>,
@@ -245,7 +246,7 @@ fn kind_of(house: &Result<House, Flaw>) -> Option<ValueKind>
     }
 }
 
-/// Reads a script. docs/BENCH.md says what each line may have, and which are faulty.
+/// Reads a script. docs/BENCH.md says what each line may have, and what is a flaw.
 pub fn read(heap: Global, text: &[u8]) -> Result<Script, ScriptError>
     ensures { IsReading text.now result }
 {
@@ -266,6 +267,6 @@ pub fn read(heap: Global, text: &[u8]) -> Result<Script, ScriptError>
             lines: calls,
             end: lines.len(),
         }),
-        _ => Err(ScriptError::Faulty(Flaws { all: flaws })),
+        _ => Err(ScriptError::Flawed(Flaws { all: flaws })),
     }
 }

@@ -66,8 +66,8 @@ pub fn put_set(set: Set, out: &mut String) -> Result<(), AllocError>
     out.push_str("}")
 }
 
-/// Adds a cell: its figure, or the word `empty`.
-pub fn put_cell(cell: Cell<Figure>, out: &mut String) -> Result<(), AllocError>
+// Adds a cell: its figure, or the word `empty`.
+fn put_cell(cell: Cell<Figure>, out: &mut String) -> Result<(), AllocError>
     ensures { OnOk result (string_bytes out.new ≡ string_bytes out.old ++ written_cell (option_map numbers_of cell)) }
 {
     match cell {
@@ -76,7 +76,7 @@ pub fn put_cell(cell: Cell<Figure>, out: &mut String) -> Result<(), AllocError>
     }
 }
 
-// Adds a word behind a blank.
+// Adds a number behind a blank.
 fn put_number_behind(number: usize, out: &mut String) -> Result<(), AllocError>
     ensures { OnOk result (string_bytes out.new ≡ string_bytes out.old ++ (32 ∷ decimal number)) }
 {
@@ -84,6 +84,7 @@ fn put_number_behind(number: usize, out: &mut String) -> Result<(), AllocError>
     put_number(number, out)
 }
 
+// Adds a set behind a blank.
 fn put_set_behind(set: Set, out: &mut String) -> Result<(), AllocError>
     ensures { OnOk result (string_bytes out.new ≡ string_bytes out.old ++ (32 ∷ written_set set.0)) }
 {
@@ -118,6 +119,7 @@ fn put_opening(
     put_figures(proposals, out)
 }
 
+// Adds the numbers of a place, each behind a blank.
 fn put_place(place: Place, out: &mut String) -> Result<(), AllocError>
     ensures { OnOk result (string_bytes out.new ≡ string_bytes out.old ++ ((32 ∷ decimal place.sender) ++ ((32 ∷ decimal place.receiver) ++ (32 ∷ decimal place.column)))) }
 {

@@ -3,19 +3,19 @@ use Rattle.std.proofs.Common.{◌≡◌, ℕ, ◌+◌, ◌≤◌, List, [], ◌�
 use Rattle.std.specs.Option.{unwrap_or}
 use Rattle.protocol.specs.Machine as machine
 use Rattle.protocol.specs.Transcripts.{Transcript, Entry, closes_in}
-use Rattle.transcript.specs.Told.{opened_by, TellsCall, TellsCalls}
+use Rattle.transcript.specs.Told.{opened_first, TellsCall, TellsCalls}
 
 abbrev pub opened_after : Option ℕ → Transcript → Option ℕ
 opened_after opened [] = opened
-opened_after opened (e ∷ log) = opened_after (opened_by opened e) log
+opened_after opened (e ∷ log) = opened_after (opened_first opened e) log
 
 abbrev pub closed_after : ℕ → Transcript → ℕ
 closed_after closed [] = closed
 closed_after closed (e ∷ log) = closed_after (closed + closes_in e.call e.answer) log
 
-pub opened_more : (opened : Option ℕ) (log : Transcript) (e : Entry) → opened_after opened (log ++ e ∷ []) ≡ opened_by (opened_after opened log) e
+pub opened_more : (opened : Option ℕ) (log : Transcript) (e : Entry) → opened_after opened (log ++ e ∷ []) ≡ opened_first (opened_after opened log) e
 opened_more opened [] e = refl
-opened_more opened (d ∷ log) e = opened_more (opened_by opened d) log e
+opened_more opened (d ∷ log) e = opened_more (opened_first opened d) log e
 
 pub closed_more : (closed : ℕ) (log : Transcript) (e : Entry) → closed_after closed (log ++ e ∷ []) ≡ closed_after closed log + closes_in e.call e.answer
 closed_more closed [] e = refl
@@ -25,7 +25,7 @@ pub tells_more : (opened : Option ℕ) (closed : ℕ) (log : Transcript) (e : En
     → TellsCall (unwrap_or (opened_after opened log) 0) (closed_after closed log) e line → TellsCalls opened closed (log ++ e ∷ []) (text ++ line)
 tells_more opened closed [] e text line h k = (line, [], ap (λ t. t ++ line) h ∙ sym (append-nil line), k, refl)
 tells_more opened closed (d ∷ log) e text line (first, rest, is, told, more) k =
-    (first, rest ++ line, ap (λ t. t ++ line) is ∙ append_assoc first rest line, told, tells_more (opened_by opened d) (closed + closes_in d.call d.answer) log e rest line more k)
+    (first, rest ++ line, ap (λ t. t ++ line) is ∙ append_assoc first rest line, told, tells_more (opened_first opened d) (closed + closes_in d.call d.answer) log e rest line more k)
 
 pub closes_once : (call : machine.Call) (answer : machine.Answer) → closes_in call answer ≤ 1
 closes_once (machine.Open n t proposals initial) answer = omega arith

@@ -16,7 +16,7 @@ pub record WasClean (log : Transcript) (c : ℕ) : Type 0 where
   pub clean : Clean log o c
   pub closed : 3 * c + 2 < closes log
 
--- a set has the controllers that were
+-- a set has exactly the controllers that were clean coordinators
 abbrev pub AreClean : Transcript → (set : ℕ) → Type 0
 AreClean log set = (c : ℕ) → c < MOST_CONTROLLERS → (has set c ≡ true) ↔ WasClean log c
 
@@ -51,6 +51,6 @@ pub record IsOutcome (log : Transcript) (o : Outcome) : Type 0 where
   pub clean : AreClean log o.clean.0
   pub decided : IsDecided log o.decisions
 
--- where the law of transcripts holds and somebody was a clean coordinator, no two decisions differ
+-- where the law of transcripts holds and somebody was a clean coordinator, no two filled decisions differ
 abbrev pub AgreeIfClean : Transcript → Outcome → Type 0
 AgreeIfClean log o = (m : Meaning) → Law m log → (c : ℕ) → c < MOST_CONTROLLERS → has o.clean.0 c ≡ true → o.decisions ≢ Unequal

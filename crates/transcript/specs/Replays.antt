@@ -16,12 +16,12 @@ use Rattle.transcript.specs.declared.outcomes.Decisions.TheVariants.{Unequal}
 use Rattle.transcript.specs.declared.replaying.Replay.{Replay}
 
 -- the model that a first line names: one of the table under its stamps
-abbrev pub model_of : House → Meaning
-model_of house = under_stamps house.stamps (standard house.base)
+abbrev pub named_model : House → Meaning
+named_model house = under_stamps house.stamps (standard house.base)
 
 pub record IsReplay (script : Script) (replay : Replay) : Type 0 where
   -- the answers are the machine's to the calls, and obey the law of transcripts
-  pub performed : ArePerformed (rules_of script.house.kind) script.cells (model_of script.house) script.lines.items replay.answers.items
+  pub performed : ArePerformed (rules_of script.house.kind) script.cells (named_model script.house) script.lines.items replay.answers.items
   -- the outcome is that of calls and answers, by whichever numbers one takes figures to mean
   pub outcome : (means : Figure → List ℕ) → IsOutcome (log_by means script.lines.items replay.answers.items) replay.outcome
   -- where some controller was a clean coordinator, no two filled decisions differ

@@ -6,6 +6,7 @@ use Rattle.protocol.specs.Transcripts.{Transcript, Opening, opening, sets, close
 use Rattle.transcript.specs.Outcomes.{IsDecided}
 use Rattle.transcript.specs.declared.tallies.Tally.{Tally}
 
+-- a tally tells a transcript: the size of the block that was opened first, the closes, the sets and the decisions
 pub record Tells (log : Transcript) (t : Tally) : Type 0 where
   pub block : t.block ≡ option_map (λ (o : Opening). o.n) (opening log)
   pub closed : t.closed ≡ closes log

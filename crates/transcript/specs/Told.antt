@@ -34,14 +34,14 @@ abbrev pub round_line : (n round set : ℕ) → List ℕ
 round_line n round set = codes "# round " ++ (decimal round ++ (codes ": " ++ (purpose (stage_of n round) (round / 3) ++ (codes ", seated " ++ (written_set set ++ codes "\n")))))
 
 -- what is said of a decision's cell
-abbrev pub told_cell : Held → List ℕ
-told_cell None = codes "none"
-told_cell (Some numbers) = written_figure numbers
+abbrev pub cell_text : Held → List ℕ
+cell_text None = codes "none"
+cell_text (Some numbers) = written_figure numbers
 
 -- what is said of an answer
 abbrev pub TellsAnswer : machine.Answer → List ℕ → Type 0
 TellsAnswer machine.Done text = text ≡ codes "accepted"
-TellsAnswer (machine.Decided cell) text = text ≡ told_cell cell
+TellsAnswer (machine.Decided cell) text = text ≡ cell_text cell
 TellsAnswer (machine.Refused why) text = (words : List ℕ) × IsOneLine words × (text ≡ codes "refused " ++ (decimal (number_of why) ++ (codes ": " ++ words)))
 
 -- the line of a round that a call begins: an accepted seat does; the number of the round is how many were closed before
@@ -56,15 +56,15 @@ begun n closed (machine.Decision i) answer = []
 abbrev pub TellsCall : (n closed : ℕ) → Entry → List ℕ → Type 0
 TellsCall n closed e text = (answer : List ℕ) × TellsAnswer e.answer answer × (text ≡ begun n closed e.call e.answer ++ (written e.call ++ (codes "  # " ++ (answer ++ codes "\n"))))
 
--- how many controllers the block has that was opened first, if one was before or is by this call; 0 where none was
-abbrev pub opened_by : Option ℕ → Entry → Option ℕ
-opened_by before e = option_or before (option_map (λ o. o.n) (opening_in e.call e.answer))
+-- how many controllers the block has that was opened first, if one was before or is by this call
+abbrev pub opened_first : Option ℕ → Entry → Option ℕ
+opened_first before e = option_or before (option_map (λ o. o.n) (opening_in e.call e.answer))
 
--- the lines of calls, one after another
+-- the lines of calls, one after another; where no block was opened, rounds are told as if it had 0 controllers
 abbrev pub TellsCalls : (opened : Option ℕ) (closed : ℕ) → Transcript → List ℕ → Type 0
 TellsCalls opened closed [] text = text ≡ []
 TellsCalls opened closed (e ∷ more) text = (line rest : List ℕ) × (text ≡ line ++ rest) × TellsCall (unwrap_or opened 0) closed e line
-    × TellsCalls (opened_by opened e) (closed + closes_in e.call e.answer) more rest
+    × TellsCalls (opened_first opened e) (closed + closes_in e.call e.answer) more rest
 
 -- the first two lines: what the script votes on, and its cells
 abbrev pub head_lines : House → (cells : ℕ) → List ℕ

@@ -44,7 +44,7 @@ fn calls<K: Kind>(
 }
 
 // An answer with a figure in place of a row.
-fn figure_of<K: Scripted>(
+fn in_figures<K: Scripted>(
     answer: &Result<Answer<K::Row>, Refusal>,
 ) -> Result<Answer<Figure>, Refusal>
     ensures { replied result ≡ said K.rules K.plain answer.now }
@@ -58,7 +58,7 @@ fn figure_of<K: Scripted>(
     }
 }
 
-fn figures<K: Scripted>(
+fn all_in_figures<K: Scripted>(
     heap: Global,
     answers: &[Result<Answer<K::Row>, Refusal>],
 ) -> Result<Vec<Result<Answer<Figure>, Refusal>>, AllocError>
@@ -66,7 +66,7 @@ fn figures<K: Scripted>(
 {
     answers
         .iter()
-        .map(|answer| figure_of::<K>(answer))
+        .map(|answer| in_figures::<K>(answer))
         .collect(heap)
 }
 
@@ -118,7 +118,7 @@ fn perform_over<K: Scripted, M: LawfulModel>(
     let statements = statements::<K>(heap, lines)?;
     let calls = calls::<K>(heap, &statements)?;
     let answers = answers::<K, M>(heap, model, cells, &calls)?;
-    figures::<K>(heap, &answers)
+    all_in_figures::<K>(heap, &answers)
 }
 
 /// Performs the calls of lines one after another, all under one model, on a new run over so many empty cells. Returns

@@ -7,7 +7,7 @@ ghost use Rattle.models.specs.Standards.{standard};
 ghost use Rattle.transcript.specs.Rows.{ArePerformed};
 ghost use Rattle.transcript.specs.Outcomes.{IsOutcome};
 ghost use Rattle.transcript.specs.Told.{head_lines, closed_line, clean_line, decisions_line, outcome_lines, TellsScript};
-ghost use Rattle.transcript.specs.Replays.{model_of, IsReplay};
+ghost use Rattle.transcript.specs.Replays.{named_model, IsReplay};
 
 use crate::layers::Layered;
 use crate::outcomes::{Decisions, Outcome, outcome_of};
@@ -33,7 +33,7 @@ fn answers(
     heap: Global,
     script: &Script,
 ) -> Result<Vec<Result<Answer<Figure>, Refusal>>, AllocError>
-    ensures { IfOk result (λ answers. ArePerformed (rules_of script.now.house.kind) script.now.cells (model_of script.now.house) script.now.lines.items answers.items) }
+    ensures { IfOk result (λ answers. ArePerformed (rules_of script.now.house.kind) script.now.cells (named_model script.now.house) script.now.lines.items answers.items) }
 {
     let model = Layered {
         base: script.house.base,
@@ -116,8 +116,8 @@ fn put_outcome(outcome: &Outcome, out: &mut String) -> Result<(), AllocError>
     put_decisions(outcome.decisions, out)
 }
 
-/// The transcript of a script that was performed, as docs/BENCH.md has it: the text alone says what each call was
-/// answered. It is a script again. The only error is want of memory.
+/// The transcript of a script that was performed, as docs/BENCH.md has it: each call with its answer, and what came of
+/// them. The only error is want of memory.
 pub fn tell(heap: Global, script: &Script, replay: &Replay) -> Result<String, AllocError>
     ensures { IfOk result (λ text. TellsScript script.now replay.now (string_bytes text)) }
 {

@@ -90,7 +90,7 @@ impl Progress {
     ghost use Rattle.run.specs.Standing.{entry};
     ghost use Rattle.protocol.specs.Transcripts.{closes_in};
     ghost use Rattle.script.specs.Statements.{written_call, replied};
-    ghost use Rattle.transcript.specs.Told.{opened_by};
+    ghost use Rattle.transcript.specs.Told.{opened_first};
 
     // After one more call with its answer.
     fn after(
@@ -99,7 +99,7 @@ impl Progress {
         answer: &Result<Answer<Figure>, Refusal>,
     ) -> Progress
         requires { self.closed < 2 ^ 63 }
-        ensures opened { result.opened ≡ opened_by self.opened (entry (written_call statement.now) (replied answer.now)) }
+        ensures opened { result.opened ≡ opened_first self.opened (entry (written_call statement.now) (replied answer.now)) }
         ensures closed { result.closed ≡ self.closed + closes_in (written_call statement.now) (replied answer.now) }
     {
         let Progress { opened, closed } = self;

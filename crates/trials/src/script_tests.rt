@@ -108,7 +108,7 @@ fn all_faulty_lines_are_told(rt: HostRuntime) {
         wrong: Wrong::Expected(what),
     };
     match read(rt.alloc(), text.as_bytes()) {
-        Err(ScriptError::Faulty(flaws)) => {
+        Err(ScriptError::Flawed(flaws)) => {
             assert_eq!(rt; flaws.all.len(), 4);
             assert_eq!(rt; flaws.all[0], expected(2, Expected::End));
             assert_eq!(rt; flaws.all[1], expected(3, Expected::Set));
@@ -119,6 +119,6 @@ fn all_faulty_lines_are_told(rt: HostRuntime) {
             assert_eq!(rt; flaws.all[2], refused);
             assert_eq!(rt; flaws.all[3], expected(6, Expected::Value));
         }
-        _ => panic!(rt; "no line is faulty"),
+        _ => panic!(rt; "no line has a flaw"),
     }
 }

@@ -6,4 +6,4 @@ use Rattle.transcript.proofs.performing.perform_over.Goals as goal
 
 pub returns-clause-count : goal.returns-clause-count
 returns-clause-count g c =
-    IfOk-weaker c.figures.result (λ told. ArePerformed g.K.Kind.rules c.args.cells (g.M.Model.meaning c.args.model.now) c.args.lines.now told.items) _ (λ told p. all_answered p) (search rules)
+    IfOk-weaker c.all_in_figures.result (λ told. ArePerformed g.K.Kind.rules c.args.cells (g.M.Model.meaning c.args.model.now) c.args.lines.now told.items) _ (λ told p. all_answered p) (search rules)

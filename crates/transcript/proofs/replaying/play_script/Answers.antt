@@ -5,7 +5,7 @@ use Rattle.script.specs.Scripts.{rules_of}
 use Rattle.script.specs.Statements.{log_by}
 use Rattle.script.specs.declared.figures.Figure.{Figure}
 use Rattle.transcript.specs.Outcomes.{IsOutcome, AgreeIfClean}
-use Rattle.transcript.specs.Replays.{model_of}
+use Rattle.transcript.specs.Replays.{named_model}
 use Rattle.transcript.proofs.replaying.play_script.Goals as goal
 
 pub returns : goal.returns
@@ -17,5 +17,5 @@ returns c =
     record {
       performed = performed;
       outcome = λ means. coe 0 1 (i. IsOutcome (log_by means (c.deref.ensures.value i) (c.deref-2.ensures.value i)) outcome) (c.in_ok-outcome.ensures.told means);
-      agreed = coe 0 1 (i. AgreeIfClean (log_by own (c.deref.ensures.value i) (c.deref-2.ensures.value i)) outcome) (c.in_ok-outcome.ensures.agreed own) (model_of script.house) performed.law;
+      agreed = coe 0 1 (i. AgreeIfClean (log_by own (c.deref.ensures.value i) (c.deref-2.ensures.value i)) outcome) (c.in_ok-outcome.ensures.agreed own) (named_model script.house) performed.law;
     }

@@ -6,7 +6,7 @@ use Rattle.protocol.specs.Transcripts.{closes_in}
 use Rattle.run.specs.Standing.{entry}
 use Rattle.script.specs.Figures.{numbers_of}
 use Rattle.script.specs.Statements.{log_by, written_call, replied}
-use Rattle.transcript.specs.Told.{opened_by, TellsCall, TellsCalls}
+use Rattle.transcript.specs.Told.{opened_first, TellsCall, TellsCalls}
 use Rattle.transcript.proofs.OutcomeLogs.{log_more, log_whole}
 use Rattle.transcript.proofs.TellingCalls.{opened_after, closed_after, opened_more, closed_more, tells_more, closes_once}
 use Rattle.transcript.proofs.telling.put_calls.Goals as goal
@@ -33,7 +33,7 @@ loop-line-preserved c =
         subst (λ log. TellsCalls None 0 log (so_far.0 ++ put.0)) (sym grown) (tells_more None 0 log e so_far.0 put.0 so_far.1 told),
         put.2 ∙ ap (λ text. text ++ put.0) so_far.2 ∙ append_assoc (string_bytes c.args.out.now) so_far.0 put.0,
       ),
-      after.opened ∙ ap (λ o. opened_by o e) l.invariant.1 ∙ sym (opened_more None log e) ∙ ap (opened_after None) (sym grown),
+      after.opened ∙ ap (λ o. opened_first o e) l.invariant.1 ∙ sym (opened_more None log e) ∙ ap (opened_after None) (sym grown),
       after.closed ∙ ap (λ closed. closed + closes_in e.call e.answer) l.invariant.2 ∙ sym (closed_more 0 log e) ∙ ap (closed_after 0) (sym grown),
       omega (arith, n, l.invariant.3, after.closed, closes_once e.call e.answer),
     )
