@@ -223,6 +223,7 @@ fn no_call(rng: &Rng) -> &'static str {
         "{}",
         "500",
         "\u{b}close",
+        "\u{c}close",
         "stamped",
     ])
 }

@@ -67,8 +67,9 @@ fn pack_behind(
 /// The bytes of a script's run file; or its first line that does not fit; or want of memory.
 ///
 /// A script can be packed if its calls are one open, then rounds (a seat, any forges, a close), and then any decisions,
-/// which leave no trace (`Packable`). Where its values keep the rule of their kind, the file is in order, and asks for
-/// the same calls (`AsksFor`). A figure of the other kind is written as it is.
+/// which leave no trace; if the open has a proposal for each controller, and each number that has one byte fits there; if
+/// the file has room for all; and if the script says enough cells (`IsPackable`). Where its values keep the rule of their
+/// kind, the file is in order, and asks for the same calls (`AsksFor`). A figure of the other kind is written as it is.
 pub fn pack(heap: Global, script: &Script) -> Result<Vec<u8>, PackError>
     ensures packed { IsMade (λ v. v.items) (packed script.now) result }
     ensures fits { IfErr result (λ why. IsPackable script.now → why ≡ NoMemory) }

@@ -47,8 +47,9 @@ fn answers(
 
 /// Performs a script on a new run, under the model of its first line, over as many empty cells as it says.
 ///
-/// The answers are the machine's to its calls, and obey the law of transcripts; the outcome is computed from the answers
-/// alone. Where some controller was a clean coordinator, no two filled decisions differ. The only error is want of memory.
+/// The answers are the machine's to its calls, and obey the law of transcripts; the outcome is computed from the calls
+/// and these answers alone. Where some controller was a clean coordinator, no two filled decisions differ. The only error
+/// is want of memory.
 pub fn play_script(heap: Global, script: &Script) -> Result<Replay, AllocError>
     ensures { IfOk result (λ replay. IsReplay script.now replay) }
 {
@@ -117,7 +118,7 @@ fn put_outcome(outcome: &Outcome, out: &mut String) -> Result<(), AllocError>
 }
 
 /// The transcript of a script that was performed, as docs/BENCH.md has it: each call with its answer, and what came of
-/// them. The only error is want of memory.
+/// them. Where calls and answers are not as many, the rest is not told. The only error is want of memory.
 pub fn tell(heap: Global, script: &Script, replay: &Replay) -> Result<String, AllocError>
     ensures { IfOk result (λ text. TellsScript script.now replay.now (string_bytes text)) }
 {
