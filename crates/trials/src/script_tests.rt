@@ -1,6 +1,8 @@
 use models::{Set, Standard};
 use run::Answer::{Decided, Done};
-use script::{Expected, Figure, Flaw, House, Script, ScriptError, Statement, ValueKind, Wrong, read};
+use script::{
+    Expected, Figure, Flaw, House, Script, ScriptError, Statement, ValueKind, Wrong, read,
+};
 use std::process::Abort;
 use transcript::{Decisions, Outcome, play_script, tell};
 use values::{Refusal, Shares};
@@ -56,7 +58,10 @@ fn a_script_says_its_calls(rt: HostRuntime) {
         stamps: 2,
     };
     assert_eq!(rt; script.house, house);
-    assert_eq!(rt; (script.cells, script.cells_line, script.end), (4688, 0, 13));
+    assert_eq!(rt;
+        (script.cells, script.cells_line, script.end),
+        (4688, 0, 13)
+    );
     assert_eq!(rt; script.lines.len(), 10);
     assert_eq!(rt; script.lines[0].number, 3);
     let proposed = Figure::Sheet(Shares {
@@ -67,7 +72,10 @@ fn a_script_says_its_calls(rt: HostRuntime) {
     });
     match &script.lines[0].statement {
         Statement::Open {
-            n, t, proposals, ..
+            n,
+            t,
+            proposals,
+            ..
         } => {
             assert_eq!(rt; (*n, *t), (1, 0));
             assert!(rt; proposals.as_slice() == [proposed].as_slice());
