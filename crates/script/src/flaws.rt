@@ -94,7 +94,8 @@ impl Error for Flaw {}
 /// How many flaws are told at most.
 const MOST_TOLD: usize = 20;
 
-/// The flaws of a script's lines, in the order of the lines. Displays as a line for each, `MOST_TOLD` at most, and one for the rest.
+/// The flaws of a script's lines, in the order of the lines. Displays as a line for each, as docs/BENCH.md has it, which
+/// says how many are told; a last line says how many more there are.
 #[derive(Drop, Debug)]
 pub struct Flaws {
     /// All of them.
