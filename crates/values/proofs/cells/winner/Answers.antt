@@ -15,4 +15,6 @@ returns g c =
     let found : c.position.result ≡ position (λ cell. q (shows g.K.Kind.rules g.K.Kind.plain cell)) cells = position_from_yields_List _ _ _ c.position.result c.position.ensures.ran (YieldsList-from_slice cells cc) (λ x b f k. search (rules, tests)) in
     let p = qualifying c.args.quorum.at_least c.args.quorum.otherwise_at_most held (length cells) in
     let law = position_is (λ cell. q (shows g.K.Kind.rules g.K.Kind.plain cell)) None cells p (λ i. ap q (seen_is g.K.Kind.rules g.K.Kind.plain cells i)) c.position.result found in
-    record { value = sym (lowest_only p (length cells) c.position.result law); law = law }
+    let first = sym (lowest_only p (length cells) c.position.result law) in
+    -- By search: it judges the result, where a term would only fit this body.
+    record { value = search rules; law = search rules }
